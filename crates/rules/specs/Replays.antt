@@ -72,11 +72,11 @@ endLine b r = lineOf (101 ∷ 110 ∷ 100 ∷ []) (map decimal (held b r))
 unfoldable pub replayed : ℕ → List ℕ → ℕ → List ℕ → Rec → List ℕ
 replayed zero s p b r = endLine b r
 replayed (suc k) s p b r = elim (recordAt s p) [
-  taken e p′ ↦ (let o = doEntry b r e in answerLine r e (o .answer) ++ replayed k s p′ (o .slots) (recOr r (o .answer .held)))
+  | taken e p′ ↦ (let o = doEntry b r e in answerLine r e (o .answer) ++ replayed k s p′ (o .slots) (recOr r (o .answer .held)))
   | broken ↦ brokenLine r ++ endLine b r
   | cut ↦ brokenLine r ++ endLine b r
   | ended ↦ endLine b r
-  ]
+]
 
 -- what the program writes: 16,000 slots of its own, zero at first; each record takes at least a byte
 unfoldable pub replay : List ℕ → List ℕ

@@ -1,0 +1,159 @@
+-- What each call keeps, from any queue that a sequence leaves: as many slots, a fit queue, and the balance. Assumes nothing.
+use mathlib.Core.List.{List, [], _∷_}
+use mathlib.Core.Path.{_≡_, refl, _∙_}
+use Prim.Native.Nat.{ℕ, _+_, _≤_, suc, zero}
+use native.Mathlib.Omega.{arith}
+use lib.ListN.{length}
+use Rattle.rules.proofs.Calls.{lawful}
+use Rattle.rules.proofs.Count.{tally-nil}
+use Rattle.rules.proofs.Drains.{opened-good, opening-few, open-balance, GoodDrain, front-good, next-balance, idx-in, back-good, next-back-balance, last-in, close-balance}
+use Rattle.rules.proofs.Fit.{Fit, fit-shut, stands-shut, op-good, op-held, fit-drawn, stands-drawn, open-whole, front-whole, length-whole, back-whole, close-good, closed-held}
+use Rattle.rules.proofs.Held.{length-held, new-good, laid}
+use Rattle.rules.proofs.Images.{length-elements, reading-fits}
+use Rattle.rules.proofs.Lawful.{Lawful}
+use Rattle.rules.proofs.Refusals.{Good, queue-ok}
+use Rattle.rules.proofs.Slots.{length-lay}
+use Rattle.rules.proofs.Tests.{by-refusal}
+use Rattle.rules.specs.Calls.{rule}
+use Rattle.rules.specs.Count.{tally, asList}
+use Rattle.rules.specs.Drains.{onOpening, opened, Drain, wholeList, during, fromFront, fromBack, closedRec, onDrain}
+use Rattle.rules.specs.Images.{laidOut, howMany, elementsIn}
+use Rattle.rules.specs.Makes.{madeWith, noneMade, fresh, readImage}
+use Rattle.rules.specs.Outcome.{Held, Outcome, unchanged, shut, refusal, accepted, recAfter, doRule, drawn, doOpen, handsOver, nextOf, nextBackOf, closed, doNext, doNextBack, doClose}
+use Rattle.rules.specs.Records.{Rec, held, newRec}
+use Rattle.rules.specs.Refusals.{onSlots, onLayout, room, mostSlots}
+use Rattle.rules.specs.Rule.{Rule}
+use Rattle.rules.specs.Sequences.{stands, making, madeOr, Do, doOne, op, freshly, reading, opening, next, nextBack, close}
+use Rattle.rules.specs.Slots.{lay}
+use Rattle.rules.specs.Tests.{unless}
+
+-- a call on one queue
+pub record Keeps (b : List ℕ) (h : Held) (o : Outcome) : Type 0 where
+  pub slots : length (o .slots) ≡ length b
+  pub fit : Fit (o .slots) (o .answer .held)
+  pub balance : (x : ℕ) → tally x (stands b h) + tally x (o .entered) ≡ tally x (stands (o .slots) (o .answer .held)) + tally x (o .left)
+
+-- refused, passed over, or Nothing to do
+keeps-same : (b : List ℕ) (h : Held) (n : ℕ) → Fit b h → Keeps b h (unchanged b h n)
+unfolding unchanged
+keeps-same b h n f = record { slots = refl; fit = f; balance = λ x. refl }
+
+-- the list l is laid from the head of a good record
+pub laid-fit : (b : List ℕ) (r : Rec) (l : List ℕ) → Good (length b) r → Fit (lay b (r .head) l) (shut r)
+laid-fit b r l g = fit-shut {r = r} (rw length-lay g)
+
+pub laid-stands : (b : List ℕ) (r : Rec) (l : List ℕ) → Good (length b) r → held (lay b (r .head) l) r ≡ l → stands (lay b (r .head) l) (shut r) ≡ l
+laid-stands b r l g e = stands-shut (lay b (r .head) l) r (rw length-lay g) ∙ e
+
+-- ---- one queue
+
+module _ (b : List ℕ) (r : Rec) (g : Good (length b) r) where
+  op-accepted : (R : Rule) → Lawful R → refusal (length b) r R ≡ 0 → Keeps b (shut r) (accepted b r R)
+  unfolding accepted refusal
+  op-accepted R L e = record {
+    slots = length-lay b _ _;
+    fit = laid-fit b (recAfter b r R) _ (op-good b r R L e);
+    balance = λ x. rw (stands-shut b r g, laid-stands b (recAfter b r R) _ (op-good b r R L e) (op-held b r R L e))
+        (L .balance x (length b) (held b r) (rw length-held (queue-ok (length b) r _ e .1)));
+  }
+
+  keeps-op : (R : Rule) → Lawful R → Keeps b (shut r) (doRule b r R)
+  unfolding doRule
+  keeps-op R L = by-refusal (refusal (length b) r R) (Keeps b (shut r)) (op-accepted R L) (keeps-same b (shut r) _ (fit-shut g))
+
+  -- a call that makes a record over the list l: what stood has left
+  made-keeps : (l : List ℕ) → length l ≤ length b → Keeps b (shut r) (making b (shut r) (madeWith b l))
+  unfolding making madeWith madeOr unless newRec
+  made-keeps l le =
+      let n = new-good (length b) (length l) le in
+      record { slots = length-lay b 0 l; fit = laid-fit b (newRec (length l)) l n; balance = λ x. rw (new-stands n) (omega arith) }
+    where
+      new-stands : Good (length b) (newRec (length l)) → stands (lay b 0 l) (shut (newRec (length l))) ≡ l
+      new-stands n = laid-stands b (newRec (length l)) l n (laid b (newRec (length l)) l n refl)
+
+  -- and one that makes none
+  unmade-keeps : (n : ℕ) → Keeps b (shut r) (making b (shut r) (noneMade b (suc n)))
+  unfolding making noneMade madeOr unless
+  unmade-keeps n = record { slots = refl; fit = fit-shut g; balance = λ x. refl }
+
+  made-or-not : (n : ℕ) (l : List ℕ) → (n ≡ 0 → length l ≤ length b) → Keeps b (shut r) (making b (shut r) (unless n (madeWith b l) (noneMade b n)))
+  unfolding unless
+  made-or-not zero l le = made-keeps l (le refl)
+  made-or-not (suc n) l le = unmade-keeps n
+
+  keeps-fresh : Keeps b (shut r) (making b (shut r) (fresh b))
+  unfolding fresh
+  keeps-fresh = made-or-not (onSlots (length b) 0) [] (λ e. omega arith)
+
+  keeps-reading : (s : List ℕ) → Keeps b (shut r) (making b (shut r) (readImage b s))
+  unfolding readImage
+  keeps-reading s = made-or-not (onSlots (length b) (onLayout (laidOut s) (room (length b) (howMany s)))) (elementsIn s)
+      (λ e. rw (length-elements s) (reading-fits (length b) s e))
+
+  open-keeps : (s e : ℕ) → onOpening (length b) r s e ≡ 0 → Keeps b (shut r) (unchanged b (drawn (opened r s e)) 0)
+  unfolding unchanged
+  open-keeps s e z =
+      let d = opened-good (length b) r s e z in
+      record {
+        slots = refl;
+        fit = fit-drawn (opening-few (length b) r s e z) d;
+        balance = λ x. rw (stands-shut b r g, stands-drawn b (opened r s e) d, open-whole b r s e z, open-balance x r s e (held b r));
+      }
+
+  keeps-open : (s e : ℕ) → Keeps b (shut r) (doOpen b r s e)
+  unfolding doOpen
+  keeps-open s e = by-refusal (onOpening (length b) r s e) (Keeps b (shut r)) (open-keeps s e) (keeps-same b (shut r) _ (fit-shut g))
+
+module _ (b : List ℕ) (d : Drain) (few : length b ≤ mostSlots) (g : GoodDrain (length b) d) where
+  -- the drain, now d′, has handed v over
+  hand-keeps : (d′ : Drain) (v : ℕ) → GoodDrain (length b) d′ → wholeList b d′ ≡ wholeList b d
+      → ((x : ℕ) → tally x (during (wholeList b d) d) ≡ tally x (during (wholeList b d) d′) + tally x (v ∷ [])) → Keeps b (drawn d) (handsOver b d′ v)
+  unfolding handsOver asList
+  hand-keeps d′ v g′ w e =
+      record { slots = refl; fit = fit-drawn few g′; balance = λ x. rw (stands-drawn b d g, stands-drawn b d′ g′, w) (omega (arith, e x, tally-nil x)) }
+
+  next-keeps : (n : ℕ) → d .remaining ≡ n → Keeps b (drawn d) (nextOf b d n)
+  unfolding nextOf
+  next-keeps zero e = keeps-same b (drawn d) 0 (fit-drawn few g)
+  next-keeps (suc n) e =
+      hand-keeps (fromFront d) _ (front-good (length b) n d g e) (front-whole b d)
+      (λ x. next-balance x (wholeList b d) d n e (rw length-whole (idx-in (length b) d g n e)))
+
+  next-back-keeps : (n : ℕ) → d .remaining ≡ n → Keeps b (drawn d) (nextBackOf b d n)
+  unfolding nextBackOf
+  next-back-keeps zero e = keeps-same b (drawn d) 0 (fit-drawn few g)
+  next-back-keeps (suc n) e =
+      hand-keeps (fromBack d) _ (back-good (length b) n d g e) (back-whole b d)
+      (λ x. next-back-balance x (wholeList b d) d n e (rw length-whole (last-in (length b) d g n e)))
+
+  closed-keeps : Keeps b (drawn d) (closed b d)
+  unfolding closed
+  closed-keeps =
+      let k = close-good (length b) d g in
+      record {
+        slots = length-lay b _ _;
+        fit = laid-fit b (closedRec (length b) d) _ k;
+        balance = λ x. rw (stands-drawn b d g, laid-stands b (closedRec (length b) d) _ k (closed-held b d g)) (omega (arith, close-balance x (wholeList b d) d, tally-nil x));
+      }
+
+  -- refused, or as the drain's record says
+  keeps-drain : (o : Outcome) → Keeps b (drawn d) o → Keeps b (drawn d) (unless (onDrain (length b) d) o (unchanged b (drawn d) (onDrain (length b) d)))
+  keeps-drain o k = by-refusal (onDrain (length b) d) (Keeps b (drawn d)) (λ e. k) (keeps-same b (drawn d) _ (fit-drawn few g))
+
+-- each call on one queue
+pub keeps-one : (b : List ℕ) {h : Held} → Fit b h → (k : Do) → Keeps b h (doOne b h k)
+unfolding doOne doNext doNextBack doClose
+keeps-one b (fit-shut {r = r} g) (op o) = keeps-op b r g (rule o) (lawful o)
+keeps-one b (fit-shut {r = r} g) freshly = keeps-fresh b r g
+keeps-one b (fit-shut {r = r} g) (reading s) = keeps-reading b r g s
+keeps-one b (fit-shut {r = r} g) (opening s e) = keeps-open b r g s e
+keeps-one b (fit-shut g) next = keeps-same b _ 0 (fit-shut g)
+keeps-one b (fit-shut g) nextBack = keeps-same b _ 0 (fit-shut g)
+keeps-one b (fit-shut g) close = keeps-same b _ 0 (fit-shut g)
+keeps-one b (fit-drawn few g) (op o) = keeps-same b _ 0 (fit-drawn few g)
+keeps-one b (fit-drawn few g) freshly = keeps-same b _ 0 (fit-drawn few g)
+keeps-one b (fit-drawn few g) (reading s) = keeps-same b _ 0 (fit-drawn few g)
+keeps-one b (fit-drawn few g) (opening s e) = keeps-same b _ 0 (fit-drawn few g)
+keeps-one b (fit-drawn {d = d} few g) next = keeps-drain b d few g _ (next-keeps b d few g (d .remaining) refl)
+keeps-one b (fit-drawn {d = d} few g) nextBack = keeps-drain b d few g _ (next-back-keeps b d few g (d .remaining) refl)
+keeps-one b (fit-drawn {d = d} few g) close = keeps-drain b d few g _ (closed-keeps b d few g)

@@ -1,0 +1,144 @@
+-- What each call on either queue or on both keeps. Assumes nothing.
+use mathlib.Core.List.{List, []}
+use mathlib.Core.Logic.{_≢_}
+use mathlib.Core.Option.{some, none, Option}
+use mathlib.Core.Path.{_≡_, refl}
+use Prim.Native.Nat.{ℕ, _+_}
+use native.Mathlib.Omega.{arith}
+use lib.ListN.{length, drop}
+use Rattle.rules.proofs.Count.{tally-append, tally-nil, tally-split}
+use Rattle.rules.proofs.Fit.{Fit, fit-shut, stands-shut, fit-drawn}
+use Rattle.rules.proofs.Keeps.{laid-fit, laid-stands, keeps-one}
+use Rattle.rules.proofs.Pairs.{appended-good, append-held, emptied-held, split-good, target-held, split-held}
+use Rattle.rules.proofs.Refusals.{Good}
+use Rattle.rules.proofs.Slots.{length-lay}
+use Rattle.rules.proofs.Tests.{unless-stop, by-either}
+use Rattle.rules.specs.Count.{tally}
+use Rattle.rules.specs.Outcome.{Held, shut}
+use Rattle.rules.specs.Pairs.{onAppending, appended, appendedRec, emptied, doAppend, onSplitting, targetRec, splitted, splitRec, doSplit}
+use Rattle.rules.specs.Records.{Rec, held, newRec}
+use Rattle.rules.specs.Sequences.{Queue, Step, stands, noStep, madeOr, queueOf, bothStep, appendStep, splitStep, Call, firstStep, oneStep, on, appending, splitting, Pair, step, sideA, turn, sideB, Turn, Side}
+use Rattle.rules.specs.Slots.{lay}
+use Rattle.rules.specs.Tests.{unless}
+
+pub record Keeps2 (p q : Queue) (s : Step) : Type 0 where
+  pub slots-a : length (s .queues .a .slots) ≡ length (p .slots)
+  pub slots-b : length (s .queues .b .slots) ≡ length (q .slots)
+  pub fit-a : Fit (s .queues .a .slots) (s .queues .a .held)
+  pub fit-b : Fit (s .queues .b .slots) (s .queues .b .held)
+  pub balance : (x : ℕ) → tally x (stands (p .slots) (p .held)) + tally x (stands (q .slots) (q .held)) + tally x (s .entered)
+      ≡ tally x (stands (s .queues .a .slots) (s .queues .a .held)) + tally x (stands (s .queues .b .slots) (s .queues .b .held)) + tally x (s .left)
+
+-- passed over
+keeps-none : (p q : Queue) → Fit (p .slots) (p .held) → Fit (q .slots) (q .held) → Keeps2 p q (noStep p q)
+unfolding noStep
+keeps-none p q f f′ = record { slots-a = refl; slots-b = refl; fit-a = f; fit-b = f′; balance = λ x. refl }
+
+made-some : (h : Held) (r : Rec) → madeOr h (some r) ≡ shut r
+unfolding madeOr
+made-some h r = refl
+
+made-none : (h : Held) → madeOr h none ≡ h
+unfolding madeOr
+made-none h = refl
+
+module _ (b : List ℕ) (r : Rec) (g : Good (length b) r) (b′ : List ℕ) (r′ : Rec) (g′ : Good (length b′) r′) where
+  -- refused with n
+  refused-keeps : (n : ℕ) (o : Option Rec) (gone : List ℕ) → n ≢ 0 → madeOr (shut r′) o ≡ shut r′
+      → Keeps2 (queueOf b (shut r)) (queueOf b′ (shut r′)) (bothStep (shut r′) (record { pairing = record { refused = n; moved = 0; rec = r; other = o }; slots = b; slots′ = b′ }) gone)
+  unfolding bothStep
+  refused-keeps n o gone ne same =
+      rw (same, unless-stop n gone [] ne) (record { slots-a = refl; slots-b = refl; fit-a = fit-shut g; fit-b = fit-shut g′; balance = λ x. refl })
+
+  append-done : onAppending (length b) r (length b′) r′ ≡ 0 → Keeps2 (queueOf b (shut r)) (queueOf b′ (shut r′)) (bothStep (shut r′) (appended b r b′ r′) [])
+  unfolding bothStep appended madeOr unless
+  append-done z =
+      let o = appended-good (length b) r (length b′) r′ z in
+      record {
+        slots-a = length-lay b _ _;
+        slots-b = refl;
+        fit-a = laid-fit b (appendedRec r r′) _ (o .0);
+        fit-b = fit-shut (o .1);
+        balance = λ x.
+            rw (stands-shut b r g, stands-shut b′ r′ g′, laid-stands b (appendedRec r r′) _ (o .0) (append-held b r b′ r′ z), stands-shut b′ (emptied r′) (o .1), emptied-held, tally-append)
+            (omega (arith, tally-nil x));
+      }
+
+  keeps-append : Keeps2 (queueOf b (shut r)) (queueOf b′ (shut r′)) (bothStep (shut r′) (doAppend b r b′ r′) [])
+  unfolding doAppend
+  keeps-append =
+      by-either (onAppending (length b) r (length b′) r′) (λ m. Keeps2 (queueOf b (shut r)) (queueOf b′ (shut r′)) (bothStep (shut r′) m [])) append-done
+      (λ ne. refused-keeps _ (some r′) [] ne (made-some (shut r′) r′))
+
+  -- the target: filled from slot 0
+  target-fit : (at : ℕ) → onSplitting (length b) r (length b′) at ≡ 0 → Fit (lay b′ 0 (drop at (held b r))) (shut (targetRec r at))
+  unfolding targetRec newRec
+  target-fit at z = laid-fit b′ (targetRec r at) (drop at (held b r)) (split-good (length b) r (length b′) at z .1)
+
+  target-stands : (at : ℕ) → onSplitting (length b) r (length b′) at ≡ 0 → stands (lay b′ 0 (drop at (held b r))) (shut (targetRec r at)) ≡ drop at (held b r)
+  unfolding targetRec newRec
+  target-stands at z = laid-stands b′ (targetRec r at) (drop at (held b r)) (split-good (length b) r (length b′) at z .1) (target-held b r b′ at z)
+
+  split-done : (at : ℕ) → onSplitting (length b) r (length b′) at ≡ 0
+      → Keeps2 (queueOf b (shut r)) (queueOf b′ (shut r′)) (bothStep (shut r′) (splitted b r b′ at) (stands b′ (shut r′)))
+  unfolding bothStep splitted madeOr unless
+  split-done at z =
+      let o = split-good (length b) r (length b′) at z in
+      record {
+        slots-a = refl;
+        slots-b = length-lay b′ _ _;
+        fit-a = fit-shut (o .0);
+        fit-b = target-fit at z;
+        balance = λ x.
+            rw (stands-shut b r g, stands-shut b (splitRec r at) (o .0), split-held b r (length b′) at z, target-stands at z)
+            (omega (arith, tally-split x at (held b r), tally-nil x));
+      }
+
+  keeps-split : (at : ℕ) → Keeps2 (queueOf b (shut r)) (queueOf b′ (shut r′)) (bothStep (shut r′) (doSplit b r b′ at) (stands b′ (shut r′)))
+  unfolding doSplit
+  keeps-split at =
+      by-either (onSplitting (length b) r (length b′) at) (λ m. Keeps2 (queueOf b (shut r)) (queueOf b′ (shut r′)) (bothStep (shut r′) m (stands b′ (shut r′)))) (split-done at)
+      (λ ne. refused-keeps _ none _ ne (made-none (shut r′)))
+
+-- each call on the first queue, and on both
+keeps-append2 : (b : List ℕ) {h : Held} (b′ : List ℕ) {h′ : Held} → Fit b h → Fit b′ h′ → Keeps2 (queueOf b h) (queueOf b′ h′) (appendStep b h b′ h′)
+unfolding appendStep
+keeps-append2 b b′ (fit-shut {r = r} g) (fit-shut {r = r′} g′) = keeps-append b r g b′ r′ g′
+keeps-append2 b b′ (fit-shut g) (fit-drawn few′ g′) = keeps-none _ _ (fit-shut g) (fit-drawn few′ g′)
+keeps-append2 b b′ (fit-drawn few g) (fit-shut g′) = keeps-none _ _ (fit-drawn few g) (fit-shut g′)
+keeps-append2 b b′ (fit-drawn few g) (fit-drawn few′ g′) = keeps-none _ _ (fit-drawn few g) (fit-drawn few′ g′)
+
+keeps-split2 : (b : List ℕ) {h : Held} (b′ : List ℕ) {h′ : Held} (at : ℕ) → Fit b h → Fit b′ h′ → Keeps2 (queueOf b h) (queueOf b′ h′) (splitStep b h b′ h′ at)
+unfolding splitStep
+keeps-split2 b b′ at (fit-shut {r = r} g) (fit-shut {r = r′} g′) = keeps-split b r g b′ r′ g′ at
+keeps-split2 b b′ at (fit-shut g) (fit-drawn few′ g′) = keeps-none _ _ (fit-shut g) (fit-drawn few′ g′)
+keeps-split2 b b′ at (fit-drawn few g) (fit-shut g′) = keeps-none _ _ (fit-drawn few g) (fit-shut g′)
+keeps-split2 b b′ at (fit-drawn few g) (fit-drawn few′ g′) = keeps-none _ _ (fit-drawn few g) (fit-drawn few′ g′)
+
+pub keeps-first : (p q : Queue) → Fit (p .slots) (p .held) → Fit (q .slots) (q .held) → (k : Call) → Keeps2 p q (firstStep p q k)
+unfolding firstStep oneStep
+keeps-first p q f f′ (on k) =
+    let o = keeps-one (p .slots) f k in
+    record { slots-a = o .slots; slots-b = refl; fit-a = o .fit; fit-b = f′; balance = λ x. omega (arith, o .balance x) }
+keeps-first p q f f′ appending = keeps-append2 (p .slots) (q .slots) f f′
+keeps-first p q f f′ (splitting at) = keeps-split2 (p .slots) (q .slots) at f f′
+
+keeps-a : (s : Pair) → Fit (s .a .slots) (s .a .held) → Fit (s .b .slots) (s .b .held) → (k : Call) → Keeps2 (s .a) (s .b) (step s (record { side = sideA; call = k }))
+unfolding step turn
+keeps-a s f f′ k =
+    let o = keeps-first (s .a) (s .b) f f′ k in
+    record { slots-a = o .slots-a; slots-b = o .slots-b; fit-a = o .fit-a; fit-b = o .fit-b; balance = o .balance }
+
+keeps-b : (s : Pair) → Fit (s .a .slots) (s .a .held) → Fit (s .b .slots) (s .b .held) → (k : Call) → Keeps2 (s .a) (s .b) (step s (record { side = sideB; call = k }))
+unfolding step turn
+keeps-b s f f′ k =
+    let o = keeps-first (s .b) (s .a) f′ f k in
+    record { slots-a = o .slots-b; slots-b = o .slots-a; fit-a = o .fit-b; fit-b = o .fit-a; balance = λ x. omega (arith, o .balance x) }
+
+-- each call on either queue
+pub keeps : (s : Pair) → Fit (s .a .slots) (s .a .held) → Fit (s .b .slots) (s .b .held) → (t : Turn) → Keeps2 (s .a) (s .b) (step s t)
+keeps s f f′ t = by-side (t .side) (t .call)
+  where
+    by-side : (d : Side) (k : Call) → Keeps2 (s .a) (s .b) (step s (record { side = d; call = k }))
+    by-side sideA k = keeps-a s f f′ k
+    by-side sideB k = keeps-b s f f′ k
