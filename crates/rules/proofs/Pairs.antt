@@ -15,7 +15,7 @@ use Rattle.rules.specs.Slots.{lay}
 
 -- ---- `append`
 
-append-ok : (c : ℕ) (r : Rec) (c′ : ℕ) (r′ : Rec) → onAppending c r c′ r′ ≡ 0 → Good c r × Good c′ r′ × (r .len + r′ .len ≤ c)
+pub append-ok : (c : ℕ) (r : Rec) (c′ : ℕ) (r′ : Rec) → onAppending c r c′ r′ ≡ 0 → Good c r × Good c′ r′ × (r .len + r′ .len ≤ c)
 unfolding onAppending
 append-ok c r c′ r′ e =
     let p = queue-ok c r _ e in
@@ -39,7 +39,7 @@ emptied-held b r = listOf-none b 0
 
 -- ---- `split_off`
 
-split-ok : (c : ℕ) (r : Rec) (c′ at : ℕ) → onSplitting c r c′ at ≡ 0 → Good c r × (at ≤ r .len) × (r .len - at ≤ c′)
+pub split-ok : (c : ℕ) (r : Rec) (c′ at : ℕ) → onSplitting c r c′ at ≡ 0 → Good c r × (at ≤ r .len) × (r .len - at ≤ c′)
 unfolding onSplitting
 split-ok c r c′ at e =
     let p = queue-ok c r _ e in
