@@ -1,0 +1,150 @@
+//! The differences between document 01 and the Rust where both accept a call: when each occurs, as a test of the input.
+
+use crate::calls::Call;
+use crate::model;
+use crate::world::Queue;
+use std::cmp::Ordering;
+
+/// What a difference shows in.
+#[derive(Clone, Copy, Debug, PartialEq, Eq)]
+pub enum Shows {
+    /// Slots that hold no element after the call; list, record and answer are the same.
+    LeftOverSlots,
+    /// The answer; record and slots are the same.
+    TheAnswer,
+}
+
+/// A difference: in which call, when exactly, and what it shows in.
+pub struct Known {
+    pub call: &'static str,
+    pub when: &'static str,
+    pub shows: Shows,
+    holds: fn(&Queue, &[u32], &Call) -> bool,
+}
+
+/// Every difference that is known.
+pub const KNOWN: [Known; 6] = [
+    Known {
+        call: "retain",
+        when: "an element is kept behind a rejected one",
+        shows: Shows::LeftOverSlots,
+        holds: retain,
+    },
+    Known {
+        call: "swap_remove_front",
+        when: "0 < i < len and element i is not equal to the front element",
+        shows: Shows::LeftOverSlots,
+        holds: swap_remove_front,
+    },
+    Known {
+        call: "swap_remove_back",
+        when: "i < len - 1 and element i is not equal to the back element",
+        shows: Shows::LeftOverSlots,
+        holds: swap_remove_back,
+    },
+    Known {
+        call: "splice",
+        when: "r < d, start + r < t, and for some p with start <= p < start + r and p < d - r the new element p - start is not equal to element p",
+        shows: Shows::LeftOverSlots,
+        holds: splice,
+    },
+    Known {
+        call: "binary_search",
+        when: "in the run searched, the last position by Rust's halving is not the answer by document 01's",
+        shows: Shows::TheAnswer,
+        holds: binary_search,
+    },
+    Known {
+        call: "partition_point",
+        when: "in the run searched, Rust's halving ends elsewhere than document 01's",
+        shows: Shows::TheAnswer,
+        holds: partition_point,
+    },
+];
+
+/// The difference that occurs for this input, if one does. The queue's record is good and the call is accepted.
+pub fn which(queue: &Queue, call: &Call) -> Option<&'static Known> {
+    let known = KNOWN.iter().find(|k| k.call == call.name())?;
+    (known.holds)(queue, &model::list(queue), call).then_some(known)
+}
+
+/// The kept elements aren't the first ones of the list, so that the Rust swaps rejected ones to its end.
+fn retain(_: &Queue, list: &[u32], call: &Call) -> bool {
+    let Call::Retain(t) = call else { return false };
+    list.iter().skip_while(|&&v| t.met(v)).any(|&v| t.met(v))
+}
+
+/// The Rust swaps the removed element into the front slot before it pops.
+fn swap_remove_front(_: &Queue, list: &[u32], call: &Call) -> bool {
+    let Call::SwapRemoveFront(i) = call else { return false };
+    list.get(*i).is_some_and(|&v| v != list[0])
+}
+
+/// The Rust swaps the removed element into the back slot before it pops.
+fn swap_remove_back(_: &Queue, list: &[u32], call: &Call) -> bool {
+    let Call::SwapRemoveBack(i) = call else { return false };
+    list.get(*i).is_some_and(|&v| v != list[list.len() - 1])
+}
+
+/// The Rust writes the new elements where the old ones stood and then moves them on, out of slots that end up left over.
+fn splice(_: &Queue, list: &[u32], call: &Call) -> bool {
+    let Call::Splice(start, end, new) = call else { return false };
+    let (r, d, t) = (new.len(), end - start, list.len() - end);
+    r < d && start + r < t && (*start..(start + r).min(d - r)).any(|p| new[p - start] != list[p])
+}
+
+/// The Rust's halving in a run, that of core's slices: it keeps the last place that is not greater.
+fn rust_halve(run: &[u32], look: impl Fn(u32) -> Ordering) -> Result<usize, usize> {
+    if run.is_empty() {
+        return Err(0);
+    }
+    let (mut base, mut size) = (0, run.len());
+    while size > 1 {
+        let half = size / 2;
+        if look(run[base + half]) != Ordering::Greater {
+            base += half;
+        }
+        size -= half;
+    }
+    match look(run[base]) {
+        Ordering::Equal => Ok(base),
+        Ordering::Less => Err(base + 1),
+        Ordering::Greater => Err(base),
+    }
+}
+
+/// The two halvings end elsewhere, or one finds x and the other doesn't.
+fn binary_search(queue: &Queue, list: &[u32], call: &Call) -> bool {
+    let Call::BinarySearch(x) = call else { return false };
+    let (_, run) = model::searched_run(queue.cap(), queue.head, list, |v| v.cmp(x));
+    run.is_some_and(|run| {
+        let low = model::halve(run, |v| v < *x);
+        let ours = if run.get(low) == Some(x) { Ok(low) } else { Err(low) };
+        ours != rust_halve(run, |v| v.cmp(x))
+    })
+}
+
+/// The two halvings end elsewhere.
+fn partition_point(queue: &Queue, list: &[u32], call: &Call) -> bool {
+    let Call::PartitionPoint(t) = call else { return false };
+    let (_, run) = model::searched_run(queue.cap(), queue.head, list, |v| model::test_order(*t, v));
+    run.is_some_and(|run| Err(model::halve(run, |v| t.met(v))) != rust_halve(run, |v| model::test_order(*t, v)))
+}
+
+/// Whether a search on this list is answered as the documentation of a sorted (or parted) list promises, so that the
+/// only freedom is which of several equal elements is named.
+pub fn sorted_for(list: &[u32], call: &Call) -> bool {
+    match call {
+        Call::BinarySearch(_) => list.is_sorted(),
+        Call::PartitionPoint(t) => list.iter().is_partitioned(|&v| t.met(v)),
+        _ => false,
+    }
+}
+
+/// On a sorted list the Rust's answer differs exactly if x stands in the searched run more than once.
+pub fn differs_when_sorted(queue: &Queue, call: &Call) -> bool {
+    let Call::BinarySearch(x) = call else { return false };
+    let list = model::list(queue);
+    let (_, run) = model::searched_run(queue.cap(), queue.head, &list, |v| v.cmp(x));
+    run.is_some_and(|run| run.iter().filter(|&v| v == x).count() > 1)
+}
