@@ -23,7 +23,7 @@ pub struct Known {
 }
 
 /// Every difference that is known.
-pub const KNOWN: [Known; 6] = [
+pub const KNOWN: [Known; 7] = [
     Known {
         call: "retain",
         when: "an element is kept behind a rejected one",
@@ -50,22 +50,29 @@ pub const KNOWN: [Known; 6] = [
     },
     Known {
         call: "binary_search",
-        when: "in the run searched, the last position by Rust's halving is not the answer by document 01's",
+        when: "the run searched is sorted and x stands in it more than once",
         shows: Shows::TheAnswer,
-        holds: binary_search,
+        holds: search_sorted,
+    },
+    Known {
+        call: "binary_search",
+        when: "the run searched is not sorted and the two halvings of it end differently",
+        shows: Shows::TheAnswer,
+        holds: search_unsorted,
     },
     Known {
         call: "partition_point",
-        when: "in the run searched, Rust's halving ends elsewhere than document 01's",
+        when: "the run searched is not parted by the test and the two halvings of it end differently",
         shows: Shows::TheAnswer,
-        holds: partition_point,
+        holds: partition_unparted,
     },
 ];
 
 /// The difference that occurs for this input, if one does. The queue's record is good and the call is accepted.
 pub fn which(queue: &Queue, call: &Call) -> Option<&'static Known> {
-    let known = KNOWN.iter().find(|k| k.call == call.name())?;
-    (known.holds)(queue, &model::list(queue), call).then_some(known)
+    let of_this_call: Vec<&Known> = KNOWN.iter().filter(|k| k.call == call.name()).collect();
+    let list = if of_this_call.is_empty() { vec![] } else { model::list(queue) };
+    of_this_call.into_iter().find(|k| (k.holds)(queue, &list, call))
 }
 
 /// The kept elements aren't the first ones of the list, so that the Rust swaps rejected ones to its end.
@@ -113,38 +120,33 @@ fn rust_halve(run: &[u32], look: impl Fn(u32) -> Ordering) -> Result<usize, usiz
     }
 }
 
-/// The two halvings end elsewhere, or one finds x and the other doesn't.
-fn binary_search(queue: &Queue, list: &[u32], call: &Call) -> bool {
+/// The run in which x is searched, unless the back run begins with it.
+fn run_for<'a>(queue: &Queue, list: &'a [u32], x: u32) -> Option<&'a [u32]> {
+    model::searched_run(queue.cap(), queue.head, list, |v| v.cmp(&x)).1
+}
+
+/// Document 01's halving comes to the first of the equal elements, the Rust's to the last.
+fn search_sorted(queue: &Queue, list: &[u32], call: &Call) -> bool {
     let Call::BinarySearch(x) = call else { return false };
-    let (_, run) = model::searched_run(queue.cap(), queue.head, list, |v| v.cmp(x));
-    run.is_some_and(|run| {
+    run_for(queue, list, *x).is_some_and(|run| run.is_sorted() && run.iter().filter(|&v| v == x).count() > 1)
+}
+
+/// The two halvings look at other elements, and come to another place, or one of them finds x and the other doesn't.
+fn search_unsorted(queue: &Queue, list: &[u32], call: &Call) -> bool {
+    let Call::BinarySearch(x) = call else { return false };
+    run_for(queue, list, *x).is_some_and(|run| {
         let low = model::halve(run, |v| v < *x);
         let ours = if run.get(low) == Some(x) { Ok(low) } else { Err(low) };
-        ours != rust_halve(run, |v| v.cmp(x))
+        !run.is_sorted() && ours != rust_halve(run, |v| v.cmp(x))
     })
 }
 
-/// The two halvings end elsewhere.
-fn partition_point(queue: &Queue, list: &[u32], call: &Call) -> bool {
+/// The two halvings look at other elements and come to another place.
+fn partition_unparted(queue: &Queue, list: &[u32], call: &Call) -> bool {
     let Call::PartitionPoint(t) = call else { return false };
-    let (_, run) = model::searched_run(queue.cap(), queue.head, list, |v| model::test_order(*t, v));
-    run.is_some_and(|run| Err(model::halve(run, |v| t.met(v))) != rust_halve(run, |v| model::test_order(*t, v)))
-}
-
-/// Whether a search on this list is answered as the documentation of a sorted (or parted) list promises, so that the
-/// only freedom is which of several equal elements is named.
-pub fn sorted_for(list: &[u32], call: &Call) -> bool {
-    match call {
-        Call::BinarySearch(_) => list.is_sorted(),
-        Call::PartitionPoint(t) => list.iter().is_partitioned(|&v| t.met(v)),
-        _ => false,
-    }
-}
-
-/// On a sorted list the Rust's answer differs exactly if x stands in the searched run more than once.
-pub fn differs_when_sorted(queue: &Queue, call: &Call) -> bool {
-    let Call::BinarySearch(x) = call else { return false };
-    let list = model::list(queue);
-    let (_, run) = model::searched_run(queue.cap(), queue.head, &list, |v| v.cmp(x));
-    run.is_some_and(|run| run.iter().filter(|&v| v == x).count() > 1)
+    let look = |v| model::test_order(*t, v);
+    model::searched_run(queue.cap(), queue.head, list, look).1.is_some_and(|run| {
+        let parted = run.iter().is_partitioned(|&v| t.met(v));
+        !parted && Err(model::halve(run, |v| t.met(v))) != rust_halve(run, look)
+    })
 }

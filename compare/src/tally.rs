@@ -42,7 +42,7 @@ impl Tally {
             }
             Kind::Differ(known, counted) => {
                 self.counted += u64::from(*counted);
-                self.differ(known.call, called, operands, heard);
+                self.differ(known.when, called, operands, heard);
                 1
             }
             Kind::Limit => 2,
@@ -70,8 +70,8 @@ impl Tally {
         }
     }
 
-    /// Keeps the smallest input of a known difference.
-    fn differ(&mut self, name: &'static str, called: &Called, operands: Vec<usize>, heard: &Heard) {
+    /// Counts a known difference and keeps its smallest input.
+    fn differ(&mut self, when: &'static str, called: &Called, operands: Vec<usize>, heard: &Heard) {
         let queue = &called.before.0[called.q];
         let key = (queue.cap(), queue.len, queue.head, operands);
         let Heard::Gave(answer, rust) = heard else { unreachable!("both accept") };
@@ -80,9 +80,9 @@ impl Tally {
             called.call, called.outcome.answer, called.after.0[called.q], rust.0[called.q]
         );
         let new = Seen { count: 0, key: key.clone(), text: text.clone() };
-        let seen = self.seen.entry(name).or_insert(new);
+        let seen = self.seen.entry(when).or_insert(new);
         seen.count += 1;
-        if key < seen.key {
+        if key < seen.key && queue.walk.is_none() {
             (seen.key, seen.text) = (key, text);
         }
     }
@@ -99,7 +99,7 @@ impl Tally {
             println!();
         }
         for known in &KNOWN {
-            let Some(seen) = self.seen.get(known.call) else { continue };
+            let Some(seen) = self.seen.get(known.when) else { continue };
             println!("  {} ({:?}): {} times, exactly when {}", known.call, known.shows, seen.count, known.when);
             println!("    smallest: {}", seen.text);
         }
