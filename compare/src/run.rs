@@ -57,22 +57,29 @@ fn broken_scripts() -> Vec<Named> {
     lines.iter().enumerate().map(|(i, line)| Named { name: name(i), text: format!("T 3 2\n0 1 7\n{line}\n0 1 8\n") }).collect()
 }
 
-/// Runs a command on an input and gives what it writes, or why it failed.
-fn feed(command: &str, input: &[u8]) -> Result<Vec<u8>, String> {
+/// What a program wrote, and how it ended if not well.
+struct Ran {
+    text: String,
+    failed: Option<String>,
+}
+
+/// Runs a command on an input.
+fn feed(command: &str, input: &[u8]) -> Ran {
     let mut child = Command::new("sh")
         .args(["-c", command])
         .stdin(Stdio::piped())
         .stdout(Stdio::piped())
         .spawn()
-        .map_err(|e| format!("can't start: {e}"))?;
+        .expect("a shell can be started");
     let mut stdin = child.stdin.take().expect("piped");
     let output = std::thread::scope(|scope| {
         // A program that ends early, as behind a broken line, leaves the rest unread.
         scope.spawn(move || drop(stdin.write_all(input)));
-        child.wait_with_output()
+        child.wait_with_output().expect("the program's output can be read")
     });
-    let output = output.map_err(|e| format!("can't run: {e}"))?;
-    if output.status.success() { Ok(output.stdout) } else { Err(format!("ended with {}", output.status)) }
+    let text = String::from_utf8_lossy(&output.stdout).into_owned();
+    let failed = (!output.status.success()).then(|| output.status.to_string());
+    Ran { text, failed }
 }
 
 /// The first line in which two texts differ, counted from 0.
@@ -95,27 +102,28 @@ struct Count {
 
 impl Count {
     /// Enters one run; the first differing line is shown with what asked for it and what stood before.
-    fn enter(&mut self, name: &str, wanted: &str, got: Result<Vec<u8>, String>, asked: impl Fn(usize) -> String) {
+    fn enter(&mut self, name: &str, wanted: &str, got: Ran, asked: impl Fn(usize) -> String) {
         self.runs += 1;
         self.calls += wanted.lines().count() - 1;
-        let got = got.map(|bytes| String::from_utf8_lossy(&bytes).into_owned());
-        let difference = match &got {
-            Ok(got) => first_difference(wanted, got).map(|k| (k, got.as_str())),
-            Err(_) => Some((0, "")),
-        };
-        let Some((k, text)) = difference else { return };
+        let difference = first_difference(wanted, &got.text);
+        // No paper says how a program ends behind a broken line.
+        let ended_badly = got.failed.filter(|_| !wanted.lines().last().is_some_and(|l| l.starts_with("broken")));
+        if difference.is_none() && ended_badly.is_none() {
+            return;
+        }
         self.differences += 1;
         if self.differences > 10 {
             return;
         }
-        println!("{name}: line {} differs", k + 1);
-        if let Err(why) = &got {
-            println!("  the program {why}");
+        if let Some(how) = ended_badly {
+            println!("{name}: the program ended with {how}");
         }
+        let Some(k) = difference else { return };
+        println!("{name}: line {} differs", k + 1);
         println!("  asked:  {}", asked(k));
         println!("  before: {}", k.checked_sub(1).and_then(|k| wanted.lines().nth(k)).unwrap_or("-"));
         println!("  wanted: {}", wanted.lines().nth(k).unwrap_or("(nothing)"));
-        println!("  got:    {}", text.lines().nth(k).unwrap_or("(nothing)"));
+        println!("  got:    {}", got.text.lines().nth(k).unwrap_or("(nothing)"));
     }
 }
 
