@@ -40,7 +40,8 @@ fn drains(head: usize, len: usize, wrap: usize, world: &World, visit: &mut Visit
             if front + back <= drain_len {
                 let remaining = drain_len - front - back;
                 let mut world = world.clone();
-                world.0[0].drain = Some(Drain { head, start, drain_len, idx: start + front, tail_len: len - end, remaining });
+                world.0[0].drain =
+                    Some(Drain { head, start, drain_len, idx: start + front, tail_len: len - end, remaining });
                 [Call::DrainNext, Call::DrainNextBack, Call::DrainClose].iter().for_each(|c| visit(&world, 0, c));
             }
         }
@@ -50,9 +51,19 @@ fn drains(head: usize, len: usize, wrap: usize, world: &World, visit: &mut Visit
 /// The calls for a queue of len elements whose front run has wrap of them.
 fn calls(cap: usize, len: usize, wrap: usize, take: &mut dyn FnMut(&Call)) {
     let places = in_order([around(0), around(wrap), around(len), around(len / 2)].concat());
-    let values = in_order([around(0), around(wrap), around(len)].concat()).into_iter().map(|v| (v as u32).wrapping_add(10));
+    let values =
+        in_order([around(0), around(wrap), around(len)].concat()).into_iter().map(|v| (v as u32).wrapping_add(10));
     let room = cap - len;
-    for call in [Call::PushBack(9), Call::PushFront(9), Call::PopFront, Call::PopBack, Call::Front, Call::Back, Call::Clear, Call::Append] {
+    for call in [
+        Call::PushBack(9),
+        Call::PushFront(9),
+        Call::PopFront,
+        Call::PopBack,
+        Call::Front,
+        Call::Back,
+        Call::Clear,
+        Call::Append,
+    ] {
         take(&call);
     }
     for v in values {
@@ -62,13 +73,25 @@ fn calls(cap: usize, len: usize, wrap: usize, take: &mut dyn FnMut(&Call)) {
         }
     }
     for &i in &places {
-        for call in [Call::Get(i), Call::Truncate(i), Call::TruncateFront(i), Call::Resize(i, 9), Call::Insert(i, 9), Call::Remove(i), Call::SwapRemoveFront(i), Call::SwapRemoveBack(i), Call::SplitOff(i)] {
+        for call in [
+            Call::Get(i),
+            Call::Truncate(i),
+            Call::TruncateFront(i),
+            Call::Resize(i, 9),
+            Call::Insert(i, 9),
+            Call::Remove(i),
+            Call::SwapRemoveFront(i),
+            Call::SwapRemoveBack(i),
+            Call::SplitOff(i),
+        ] {
             take(&call);
         }
         for &j in &places {
             [Call::Swap(i, j), Call::Ranges(i, j), Call::DrainOpen(i, j)].iter().for_each(&mut *take);
             let gone = j.wrapping_sub(i);
-            for r in in_order(vec![0, 1, gone.wrapping_sub(1), gone, gone.wrapping_add(room), gone.wrapping_add(room + 1)]) {
+            for r in
+                in_order(vec![0, 1, gone.wrapping_sub(1), gone, gone.wrapping_add(room), gone.wrapping_add(room + 1)])
+            {
                 if r <= cap + 1 && i <= j {
                     take(&Call::Splice(i, j, new_values(r).iter().map(|v| v + 20_000).collect()));
                 }

@@ -63,10 +63,8 @@ fn put_to<E: Engine>((rust, tally): &mut (Rust<E>, Tally), called: &Called) {
 
 /// The whole comparison; true if nothing was left unexplained.
 pub fn run() -> bool {
-    let mut both = Both {
-        given: (Rust::new(), Tally::new(Given::NAME)),
-        installed: (Rust::new(), Tally::new(Installed::NAME)),
-    };
+    let mut both =
+        Both { given: (Rust::new(), Tally::new(Given::NAME)), installed: (Rust::new(), Tally::new(Installed::NAME)) };
     for cap in 0..=5 {
         exhaustive::each(cap, &mut |world, q, call| both.put_anew(world, q, call));
     }
@@ -89,6 +87,11 @@ pub fn run() -> bool {
     both.given.1.print();
     both.installed.1.print();
     let wrong = both.given.1.wrong + both.installed.1.wrong;
-    println!("{} calls, each against {} and {}: {wrong} unexplained", both.given.1.calls + both.given.1.wrong, Given::NAME, Installed::NAME);
+    println!(
+        "{} calls, each against {} and {}: {wrong} unexplained",
+        both.given.1.calls + both.given.1.wrong,
+        Given::NAME,
+        Installed::NAME
+    );
     wrong == 0
 }

@@ -52,16 +52,47 @@ fn whole_case() -> Vec<u8> {
 
 /// Each operation on a queue that wraps.
 fn every_operation() -> Vec<u8> {
-    let mut records: Vec<(u8, &[u32])> = vec![(2, &[3]), (2, &[2]), (2, &[1]), (1, &[4]), (1, &[5]), (1, &[6]), (1, &[0]), (1, &[BIG])];
-    records.extend::<[(u8, &[u32]); 8]>([(8, &[1, 9]), (8, &[7, 8]), (9, &[1]), (9, &[7]), (5, &[1, 3]), (5, &[2, 3]), (3, &[]), (4, &[])]);
-    records.extend::<[(u8, &[u32]); 8]>([(7, &[2]), (6, &[1]), (8, &[0, 7]), (8, &[2, 6]), (9, &[3]), (9, &[0]), (6, &[0]), (7, &[0])]);
+    let mut records: Vec<(u8, &[u32])> =
+        vec![(2, &[3]), (2, &[2]), (2, &[1]), (1, &[4]), (1, &[5]), (1, &[6]), (1, &[0]), (1, &[BIG])];
+    records.extend::<[(u8, &[u32]); 8]>([
+        (8, &[1, 9]),
+        (8, &[7, 8]),
+        (9, &[1]),
+        (9, &[7]),
+        (5, &[1, 3]),
+        (5, &[2, 3]),
+        (3, &[]),
+        (4, &[]),
+    ]);
+    records.extend::<[(u8, &[u32]); 8]>([
+        (7, &[2]),
+        (6, &[1]),
+        (8, &[0, 7]),
+        (8, &[2, 6]),
+        (9, &[3]),
+        (9, &[0]),
+        (6, &[0]),
+        (7, &[0]),
+    ]);
     journal(&records)
 }
 
 /// Everything that an empty queue answers, with head at 0, at the last slot and elsewhere.
 fn on_empty() -> Vec<u8> {
     let asks: [(u8, &[u32]); 13] = [
-        (3, &[]), (4, &[]), (9, &[0]), (9, &[BIG]), (6, &[0]), (6, &[BIG]), (7, &[0]), (7, &[BIG]), (8, &[1, 5]), (5, &[0, 1]), (5, &[1, 1]), (5, &[1, 0]), (5, &[0, 0]),
+        (3, &[]),
+        (4, &[]),
+        (9, &[0]),
+        (9, &[BIG]),
+        (6, &[0]),
+        (6, &[BIG]),
+        (7, &[0]),
+        (7, &[BIG]),
+        (8, &[1, 5]),
+        (5, &[0, 1]),
+        (5, &[1, 1]),
+        (5, &[1, 0]),
+        (5, &[0, 0]),
     ];
     let mut bytes = journal(&asks);
     bytes.extend(journal(&[(2, &[1]), (4, &[])]));
@@ -102,11 +133,26 @@ fn ranges() -> Vec<u8> {
 fn full() -> Vec<u8> {
     let mut bytes = vec![];
     (0..SLOTS).for_each(|v| bytes.extend(record(if v % 3 == 0 { 2 } else { 1 }, &[v])));
-    let at_edge: [(u8, &[u32]); 8] = [(1, &[1]), (2, &[1]), (8, &[0, 1]), (8, &[8_000, 1]), (8, &[SLOTS, 1]), (8, &[SLOTS + 1, 1]), (8, &[BIG, 1]), (9, &[SLOTS])];
+    let at_edge: [(u8, &[u32]); 8] = [
+        (1, &[1]),
+        (2, &[1]),
+        (8, &[0, 1]),
+        (8, &[8_000, 1]),
+        (8, &[SLOTS, 1]),
+        (8, &[SLOTS + 1, 1]),
+        (8, &[BIG, 1]),
+        (9, &[SLOTS]),
+    ];
     bytes.extend(journal(&at_edge));
     bytes.extend(journal(&[(9, &[7_999]), (8, &[8_000, 5]), (9, &[8_000]), (8, &[7_999, 6]), (1, &[1])]));
     bytes.extend(journal(&[(4, &[]), (1, &[2]), (1, &[3]), (3, &[]), (2, &[4]), (2, &[5])]));
-    bytes.extend(journal(&[(5, &[SLOTS, SLOTS]), (5, &[SLOTS, SLOTS + 1]), (5, &[8_000, 8_000]), (5, &[1, 15_999]), (5, &[0, 2])]));
+    bytes.extend(journal(&[
+        (5, &[SLOTS, SLOTS]),
+        (5, &[SLOTS, SLOTS + 1]),
+        (5, &[8_000, 8_000]),
+        (5, &[1, 15_999]),
+        (5, &[0, 2]),
+    ]));
     bytes
 }
 
@@ -121,7 +167,13 @@ fn turns() -> Vec<u8> {
         match turn {
             0 => (0..SLOTS + 1).for_each(|_| bytes.extend(record(3, &[]))),
             1 => (0..SLOTS).for_each(|_| bytes.extend(record(4, &[]))),
-            2 => bytes.extend(journal(&[(7, &[15_000]), (6, &[14_000]), (5, &[2_000, 9_000]), (5, &[4_000, 5_000]), (7, &[0])])),
+            2 => bytes.extend(journal(&[
+                (7, &[15_000]),
+                (6, &[14_000]),
+                (5, &[2_000, 9_000]),
+                (5, &[4_000, 5_000]),
+                (7, &[0]),
+            ])),
             3 => bytes.extend(journal(&[(5, &[5_000, 6_000]), (5, &[9_000, 10_000]), (5, &[0, 13_997])])),
             4 => bytes.extend(journal(&[(6, &[1]), (4, &[]), (4, &[])])),
             _ => bytes.extend(journal(&[(5, &[100, 15_900]), (9, &[150]), (9, &[20]), (8, &[150, 1]), (8, &[20, 2])])),
@@ -134,7 +186,8 @@ fn turns() -> Vec<u8> {
 fn broken(add: &mut dyn FnMut(&str, Vec<u8>)) {
     let good = journal(&[(2, &[7]), (1, &[8])]);
     let behind = |bytes: &[u8]| [&good, bytes, &record(1, &[9])].concat();
-    let kinds: [(u8, &[u32]); 9] = [(1, &[5]), (2, &[5]), (3, &[]), (4, &[]), (5, &[0, 1]), (6, &[1]), (7, &[1]), (8, &[1, 5]), (9, &[1])];
+    let kinds: [(u8, &[u32]); 9] =
+        [(1, &[5]), (2, &[5]), (3, &[]), (4, &[]), (5, &[0, 1]), (6, &[1]), (7, &[1]), (8, &[1, 5]), (9, &[1])];
     for (operation, operands) in kinds {
         let whole = record(operation, operands);
         (1..whole.len()).for_each(|n| add(&format!("cut-{operation}-{n}"), [&good, &whole[..n]].concat()));

@@ -84,7 +84,11 @@ fn accepted(called: &Called, same_answer: bool, rust: &World) -> Kind {
         (true, true, true) => None,
         (true, true, false) => Some(Shows::LeftOverSlots),
         (false, true, true) => Some(Shows::TheAnswer),
-        _ => return Kind::Wrong(format!("answer the same: {same_answer}, list and record: {same_rest}, slots: {same_slots}; the Rust: {rust}")),
+        _ => {
+            return Kind::Wrong(format!(
+                "answer the same: {same_answer}, list and record: {same_rest}, slots: {same_slots}; the Rust: {rust}"
+            ));
+        }
     };
     let moved = moved_in(called, rust);
     if moved.is_some_and(|n| n != called.outcome.moved) {
@@ -127,7 +131,8 @@ fn moved_in(called: &Called, rust: &World) -> Option<usize> {
         (0..2).flat_map(|i| standing(&w.0[i]).into_iter().map(move |(v, s)| (v, i, s))).collect()
     };
     let (before, after) = (all(called.before), all(rust));
-    let distinct = |all: &[(u32, usize, usize)]| all.iter().enumerate().all(|(i, a)| all[..i].iter().all(|b| a.0 != b.0));
+    let distinct =
+        |all: &[(u32, usize, usize)]| all.iter().enumerate().all(|(i, a)| all[..i].iter().all(|b| a.0 != b.0));
     let operands = called.call.words().1;
     let enters_again = before.iter().any(|b| operands.contains(&(b.0 as usize)));
     let told_apart = distinct(&before) && distinct(&after) && !(enters_again && called.call.adds());

@@ -21,4 +21,5 @@ pub mod rust;
 pub mod script;
 pub mod stream;
 pub mod tally;
+pub mod words;
 pub mod world;

@@ -73,12 +73,17 @@ fn write_scripts(scripts: Vec<Named>, dir: &str) -> bool {
         told.wrong.iter().for_each(|w| println!("{}: {w}", script.name));
         calls += told.sources.len() - 1;
         wrong += told.wrong.len();
-        let write = |end: &str, text: &str| fs::write(Path::new(dir).join(format!("{}.{end}", script.name)), text).expect("a file can be written");
+        let write = |end: &str, text: &str| {
+            fs::write(Path::new(dir).join(format!("{}.{end}", script.name)), text).expect("a file can be written")
+        };
         write("stdin", &script.text);
         write("stdout", &told.out);
         write("sources", &(told.sources.join("\n") + "\n"));
     }
-    println!("{} scripts, {calls} calls, {wrong} differences between the model and the Rust unexplained", scripts.len());
+    println!(
+        "{} scripts, {calls} calls, {wrong} differences between the model and the Rust unexplained",
+        scripts.len()
+    );
     wrong == 0
 }
 
@@ -94,7 +99,9 @@ fn write_journals(dir: &str) -> bool {
             println!("{}: the model writes other lines", journal.name);
             wrong += 1;
         }
-        let write = |end: &str, bytes: &[u8]| fs::write(Path::new(dir).join(format!("{}.{end}", journal.name)), bytes).expect("a file can be written");
+        let write = |end: &str, bytes: &[u8]| {
+            fs::write(Path::new(dir).join(format!("{}.{end}", journal.name)), bytes).expect("a file can be written")
+        };
         write("journal", &journal.bytes);
         write("lines", lines.as_bytes());
     }

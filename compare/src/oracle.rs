@@ -48,7 +48,9 @@ fn choose(kind: Kind, heard: Heard, called: Called) -> (Outcome, World) {
 fn source(kind: &Kind, call: &Call) -> String {
     match kind {
         Kind::Agree(_) => "Rust".into(),
-        Kind::Differ(known, _) if known.shows == Shows::LeftOverSlots => format!("ours: the Rust writes left-over slots in {}", known.call),
+        Kind::Differ(known, _) if known.shows == Shows::LeftOverSlots => {
+            format!("ours: the Rust writes left-over slots in {}", known.call)
+        }
         Kind::Differ(known, _) => format!("ours: the Rust's {} answers otherwise", known.call),
         Kind::Limit => "ours: refusal 1, the Rust has no such limit".into(),
         Kind::NoSuchState => "ours: refusal 2, the Rust has no such record".into(),

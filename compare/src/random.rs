@@ -46,10 +46,19 @@ impl Maker {
     /// The next call on queue q.
     fn call(&mut self, q: usize) -> Call {
         if self.world.0[q].drain.is_some() {
-            let steps = [Call::DrainNext, Call::DrainNext, Call::DrainNext, Call::DrainNextBack, Call::DrainNextBack, Call::DrainClose];
-            return if self.rng.once_in(40) { Call::Forget } else { steps[self.rng.below(steps.len())].clone() };
+            let steps = [
+                Call::DrainNext,
+                Call::DrainNext,
+                Call::DrainNext,
+                Call::DrainNextBack,
+                Call::DrainNextBack,
+                Call::DrainClose,
+            ];
+            let often = if model::good_drain(&self.world.0[q]) { 40 } else { 3 };
+            return if self.rng.once_in(often) { Call::Forget } else { steps[self.rng.below(steps.len())].clone() };
         }
-        if !model::good_record(self.world.0[q].cap(), self.world.0[q].head, self.world.0[q].len) && self.rng.once_in(3) {
+        if !model::good_record(self.world.0[q].cap(), self.world.0[q].head, self.world.0[q].len) && self.rng.once_in(3)
+        {
             return self.record(q);
         }
         match self.rng.below(100) {
@@ -70,7 +79,8 @@ impl Maker {
         let Queue { head, len, .. } = self.world.0[q];
         let cap = self.world.0[q].cap();
         let (len, wrap) = (len.min(cap), cap.saturating_sub(head).min(len));
-        let edges = [0, 1, len / 2, len.wrapping_sub(1), len, len + 1, wrap.wrapping_sub(1), wrap, wrap + 1, cap, usize::MAX];
+        let edges =
+            [0, 1, len / 2, len.wrapping_sub(1), len, len + 1, wrap.wrapping_sub(1), wrap, wrap + 1, cap, usize::MAX];
         if self.rng.once_in(3) { self.rng.pick(&edges) } else { self.rng.below(len + 1) }
     }
 

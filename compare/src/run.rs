@@ -50,11 +50,35 @@ pub fn random_scripts() -> Vec<Named> {
 fn broken_scripts() -> Vec<Named> {
     let long = format!("0 13 2000{}", " 1".repeat(2_000));
     let lines = [
-        "0 43", "0 89", "0 95", "2 3", "0", "0 1", "0 1 5 6", "0 3 1", "0 5 1", "0 5 0 3", "0 5 5 3", "0 13 2 1", "0 13 1 1 1", "0 17 1", "0 7 18446744073709551616",
-        "0 1 4294967296", "0 41 1 256", "0 91 1 2 3 4 5", "x", "0 7 -1", "0 7 1x", &long,
+        "0 43",
+        "0 89",
+        "0 95",
+        "2 3",
+        "0",
+        "0 1",
+        "0 1 5 6",
+        "0 3 1",
+        "0 5 1",
+        "0 5 0 3",
+        "0 5 5 3",
+        "0 13 2 1",
+        "0 13 1 1 1",
+        "0 17 1",
+        "0 7 18446744073709551616",
+        "0 1 4294967296",
+        "0 41 1 256",
+        "0 91 1 2 3 4 5",
+        "x",
+        "0 7 -1",
+        "0 7 1x",
+        &long,
     ];
     let name = |i: usize| format!("broken-{i}");
-    lines.iter().enumerate().map(|(i, line)| Named { name: name(i), text: format!("T 3 2\n0 1 7\n{line}\n0 1 8\n") }).collect()
+    lines
+        .iter()
+        .enumerate()
+        .map(|(i, line)| Named { name: name(i), text: format!("T 3 2\n0 1 7\n{line}\n0 1 8\n") })
+        .collect()
 }
 
 /// What a program wrote, and how it ended if not well.

@@ -7,7 +7,8 @@ use crate::rust::Heard;
 use std::collections::BTreeMap;
 
 /// The columns of the table.
-const COLUMNS: [&str; 9] = ["agree", "differ", "limit", "no state", "panics", "grows", "own room", "no call", "unasked"];
+const COLUMNS: [&str; 9] =
+    ["agree", "differ", "limit", "no state", "panics", "grows", "own room", "no call", "unasked"];
 
 /// A known difference as it was seen: how often, and its smallest input with both outcomes.
 struct Seen {

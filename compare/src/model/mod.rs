@@ -9,9 +9,9 @@ mod search;
 mod two;
 mod walk;
 
-pub use places::{list, place, runs, step_back};
 pub use drain::is_good as good_drain;
 pub use image::image;
+pub use places::{list, place, runs, step_back};
 pub use search::{halve, searched_run, test_order};
 pub use walk::good as good_walk;
 
@@ -54,7 +54,9 @@ fn verdict(world: &mut World, q: usize, call: &Call) -> Verdict {
         Call::Fresh => fresh(&mut world.0[q]),
         Call::ImageRead(bytes) => image::read(&mut world.0[q], bytes),
         Call::ImageWrite(target) => image::write(&world.0[q], *target),
-        Call::SetRecord(..) | Call::SetDrain(_) | Call::SetWalk(_) | Call::Plant(..) | Call::Forget => set(world, q, call),
+        Call::SetRecord(..) | Call::SetDrain(_) | Call::SetWalk(_) | Call::Plant(..) | Call::Forget => {
+            set(world, q, call)
+        }
         _ => one::call(&mut world.0[q], call),
     }
 }

@@ -27,11 +27,8 @@ fn step(queue: &mut Queue, from_back: bool) -> Verdict {
     if w.low == w.high {
         return Ok((0, Answer::Nothing));
     }
-    let (i, left) = if from_back {
-        (w.high - 1, Walk { high: w.high - 1, ..w })
-    } else {
-        (w.low, Walk { low: w.low + 1, ..w })
-    };
+    let (i, left) =
+        if from_back { (w.high - 1, Walk { high: w.high - 1, ..w }) } else { (w.low, Walk { low: w.low + 1, ..w }) };
     queue.walk = Some(left);
     Ok((0, Answer::Number(queue.slots[place(queue.cap(), w.head, i)])))
 }

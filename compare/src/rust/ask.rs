@@ -87,7 +87,9 @@ impl<E: Engine> Rust<E> {
             Call::WalkNext => walk::<E>(world, q, false),
             Call::WalkNextBack => walk::<E>(world, q, true),
             Call::ImageRead(_) | Call::ImageWrite(_) => Ok(Heard::NoCounterpart),
-            Call::SetRecord(..) | Call::SetDrain(_) | Call::SetWalk(_) | Call::Plant(..) | Call::Forget => Ok(Heard::NoCounterpart),
+            Call::SetRecord(..) | Call::SetDrain(_) | Call::SetWalk(_) | Call::Plant(..) | Call::Forget => {
+                Ok(Heard::NoCounterpart)
+            }
             Call::Resize(n, _) if *n > 1 << 20 && E::NAME == "std" => Ok(Heard::NotAsked),
             _ => self.one(world, q, call),
         };

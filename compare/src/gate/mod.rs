@@ -1,8 +1,10 @@
 //! The gate's script: every call, every refusal at its edges, records of any numbers, drains, walks and images, on one
 //! pair of capacities, so that the proved program can be run on it and its output be held against a stored one.
 
-use crate::calls::{Call, Drain, Test, Walk};
-use crate::exhaustive::{bad, broken_images, new_values, one_of_each, planted, records};
+mod records;
+
+use crate::calls::{Call, Test};
+use crate::exhaustive::{self, new_values, one_of_each, planted};
 use crate::model;
 use crate::random::{Values, sequence};
 use crate::script::Script;
@@ -31,10 +33,10 @@ pub fn script() -> Script {
         two_queue_calls(&mut gate, &world);
     }
     small_queue(&mut gate);
-    bad_records(&mut gate);
-    drains(&mut gate);
-    walks(&mut gate);
-    images(&mut gate);
+    records::bad_records(&mut gate);
+    records::drains(&mut gate);
+    records::walks(&mut gate);
+    records::images(&mut gate);
     gate.then(sequence(1, CAPS, Values::New, 500));
     gate.then(sequence(2, CAPS, Values::Few, 500));
     gate.script()
@@ -49,7 +51,13 @@ fn examples(gate: &mut Stream) {
         gate.put(&world, 0, &Call::DrainOpen(start, end));
         gate.go(0, &Call::DrainClose);
     }
-    for call in [Call::TruncateFront(3), Call::TruncateFront(4), Call::TruncateFront(0), Call::Splice(1, 2, vec![7, 8, 9]), Call::Splice(1, 4, vec![7])] {
+    for call in [
+        Call::TruncateFront(3),
+        Call::TruncateFront(4),
+        Call::TruncateFront(0),
+        Call::Splice(1, 2, vec![7, 8, 9]),
+        Call::Splice(1, 4, vec![7]),
+    ] {
         gate.put(&world, 0, &call);
     }
     (world.0[0].head, world.0[0].len, world.0[0].slots) = (0, 4, vec![4, 1, 6, 2, 90, 91, 92, 93]);
@@ -83,11 +91,28 @@ fn in_order(mut numbers: Vec<usize>) -> Vec<usize> {
 
 /// The calls that take no range, with operands on both sides of each edge.
 fn single_calls(gate: &mut Stream, world: &World, len: usize, wrap: usize) {
-    for call in [Call::Front, Call::Back, Call::PushBack(9), Call::PushFront(9), Call::PopFront, Call::PopBack, Call::Clear, Call::Fresh] {
+    for call in [
+        Call::Front,
+        Call::Back,
+        Call::PushBack(9),
+        Call::PushFront(9),
+        Call::PopFront,
+        Call::PopBack,
+        Call::Clear,
+        Call::Fresh,
+    ] {
         gate.put(world, 0, &call);
     }
     for i in in_order(vec![0, 1, wrap, len.saturating_sub(1), len, len + 1, BIG]) {
-        for call in [Call::Get(i), Call::Truncate(i), Call::TruncateFront(i), Call::Insert(i, 9), Call::Remove(i), Call::SwapRemoveFront(i), Call::SwapRemoveBack(i)] {
+        for call in [
+            Call::Get(i),
+            Call::Truncate(i),
+            Call::TruncateFront(i),
+            Call::Insert(i, 9),
+            Call::Remove(i),
+            Call::SwapRemoveFront(i),
+            Call::SwapRemoveBack(i),
+        ] {
             gate.put(world, 0, &call);
         }
     }
@@ -99,14 +124,18 @@ fn single_calls(gate: &mut Stream, world: &World, len: usize, wrap: usize) {
     }
     let room = CAPS[0] - len;
     for n in in_order(vec![0, 1, room.saturating_sub(1), room, room + 1]) {
-        [Call::Extend(new_values(n)), Call::Prepend(new_values(n)), Call::ExtendFront(new_values(n))].iter().for_each(|c| gate.put(world, 0, c));
+        [Call::Extend(new_values(n)), Call::Prepend(new_values(n)), Call::ExtendFront(new_values(n))]
+            .iter()
+            .for_each(|c| gate.put(world, 0, c));
     }
     for k in [9, 10, 13, 16, 17, 18, u32::MAX] {
         [Call::Contains(k), Call::BinarySearch(k)].iter().for_each(|c| gate.put(world, 0, c));
     }
     for k in [10, 13, 16] {
         for t in Test::all(k) {
-            [Call::PartitionPoint(t), Call::PopFrontIf(t), Call::PopBackIf(t), Call::Retain(t)].iter().for_each(|c| gate.put(world, 0, c));
+            [Call::PartitionPoint(t), Call::PopFrontIf(t), Call::PopBackIf(t), Call::Retain(t)]
+                .iter()
+                .for_each(|c| gate.put(world, 0, c));
         }
     }
 }
@@ -114,7 +143,18 @@ fn single_calls(gate: &mut Stream, world: &World, len: usize, wrap: usize) {
 /// Ranges that fit and that don't.
 fn ranges(len: usize, wrap: usize) -> Vec<(usize, usize)> {
     let one = len.min(1);
-    let mut all = vec![(0, 0), (0, one), (0, len), (len, len), (len - one, len), (one, len), (0, wrap), (wrap, len), (one, wrap), (wrap, wrap)];
+    let mut all = vec![
+        (0, 0),
+        (0, one),
+        (0, len),
+        (len, len),
+        (len - one, len),
+        (one, len),
+        (0, wrap),
+        (wrap, len),
+        (one, wrap),
+        (wrap, wrap),
+    ];
     all.extend([(1, 0), (0, len + 1), (len + 1, len + 1), (BIG, BIG), (0, BIG), (BIG, 0)]);
     all.sort_unstable();
     all.dedup();
@@ -124,7 +164,9 @@ fn ranges(len: usize, wrap: usize) -> Vec<(usize, usize)> {
 /// The calls that take a range: runs, drains closed at once, splices by less, as much and more, up to one too many.
 fn range_calls(gate: &mut Stream, world: &World, len: usize, wrap: usize) {
     for (start, end) in ranges(len, wrap) {
-        [Call::Ranges(start, end), Call::FrontRun(start, end), Call::BackRun(start, end)].iter().for_each(|c| gate.put(world, 0, c));
+        [Call::Ranges(start, end), Call::FrontRun(start, end), Call::BackRun(start, end)]
+            .iter()
+            .for_each(|c| gate.put(world, 0, c));
         gate.put(world, 0, &Call::DrainOpen(start, end));
         let fits = start <= end && end <= len;
         if fits {
@@ -141,14 +183,15 @@ fn range_calls(gate: &mut Stream, world: &World, len: usize, wrap: usize) {
 /// The calls on two queues, called on either, with every record of B.
 fn two_queue_calls(gate: &mut Stream, world: &World) {
     let len = world.0[0].len;
-    for (head, n) in records(CAPS[1]) {
+    for (head, n) in exhaustive::records(CAPS[1]) {
         let mut world = world.clone();
         (world.0[1].head, world.0[1].len) = (head, n);
         for q in 0..2 {
             [Call::Equal, Call::Compare, Call::Append].iter().for_each(|c| gate.put(&world, q, c));
         }
     }
-    for at in in_order(vec![0, len.saturating_sub(3), len.saturating_sub(2), len.saturating_sub(1), len, len + 1, BIG]) {
+    for at in in_order(vec![0, len.saturating_sub(3), len.saturating_sub(2), len.saturating_sub(1), len, len + 1, BIG])
+    {
         gate.put(world, 0, &Call::SplitOff(at));
     }
     for at in [0, 1, 2, 3, BIG] {
@@ -158,7 +201,7 @@ fn two_queue_calls(gate: &mut Stream, world: &World) {
 
 /// One of each call on B, in every record of it; lists that are equal to A's, and that begin it.
 fn small_queue(gate: &mut Stream) {
-    for (head, len) in records(CAPS[1]) {
+    for (head, len) in exhaustive::records(CAPS[1]) {
         let mut world = planted(CAPS[0], 6, 2);
         (world.0[1].head, world.0[1].len) = (head, len);
         one_of_each().iter().for_each(|c| gate.put(&world, 1, c));
@@ -169,96 +212,6 @@ fn small_queue(gate: &mut Stream) {
             for q in 0..2 {
                 [Call::Equal, Call::Compare].iter().for_each(|c| gate.put(&world, q, c));
             }
-        }
-    }
-}
-
-/// Every call on records that break rule 2, and beside one.
-fn bad_records(gate: &mut Stream) {
-    for (head, len) in bad(CAPS[0]) {
-        let world = planted(CAPS[0], head, len);
-        one_of_each().iter().for_each(|c| gate.put(&world, 0, c));
-        [Call::Append, Call::SplitOff(0), Call::SplitOff(3), Call::Equal, Call::Compare].iter().for_each(|c| gate.put(&world, 1, c));
-    }
-}
-
-/// Drains handed out from both ends, and drain records set by hand, good and bad.
-fn drains(gate: &mut Stream) {
-    for (start, end) in [(0, 5), (1, 4), (2, 5), (0, 2), (1, 2), (3, 3)] {
-        for steps in ["fffff", "bbbbb", "fbfbf", "bf", "f", "b"] {
-            gate.put(&planted(CAPS[0], 6, 5), 0, &Call::DrainOpen(start, end));
-            for step in steps.chars() {
-                gate.go(0, if step == 'f' { &Call::DrainNext } else { &Call::DrainNextBack });
-            }
-            gate.go(0, &Call::DrainClose);
-        }
-    }
-    let good = Drain { head: 6, start: 1, drain_len: 3, idx: 2, tail_len: 2, remaining: 1 };
-    let edges = |base: usize| [base.wrapping_sub(1), base + 1, base + 2, base + 3, BIG - 1, BIG];
-    let mut all = vec![good];
-    all.extend([7, 8, BIG].map(|head| Drain { head, ..good }));
-    all.extend(edges(1).map(|start| Drain { start, ..good }));
-    all.extend(edges(3).map(|drain_len| Drain { drain_len, ..good }));
-    all.extend(edges(2).map(|idx| Drain { idx, ..good }));
-    all.extend(edges(2).map(|tail_len| Drain { tail_len, ..good }));
-    all.extend(edges(1).map(|remaining| Drain { remaining, ..good }));
-    all.push(Drain { start: BIG, drain_len: BIG, idx: BIG, tail_len: BIG, remaining: BIG, ..good });
-    all.push(Drain { start: BIG, drain_len: 1, idx: BIG, tail_len: 1, remaining: 1, ..good });
-    for d in all {
-        let mut world = planted(CAPS[0], 0, 0);
-        world.0[0].drain = Some(d);
-        [Call::DrainNext, Call::DrainNextBack, Call::DrainClose].iter().for_each(|c| gate.put(&world, 0, c));
-    }
-    gate.go(0, &Call::Forget);
-}
-
-/// Walks from both ends, over a queue that changes under them, beside an open drain, and set by hand, good and bad.
-fn walks(gate: &mut Stream) {
-    gate.put(&planted(CAPS[0], 6, 5), 0, &Call::WalkNext);
-    for call in [Call::WalkNextBack, Call::WalkBegin, Call::WalkNext, Call::WalkNextBack, Call::PopFront, Call::WalkNext, Call::Clear, Call::WalkNext, Call::WalkNext, Call::WalkNext, Call::WalkNextBack] {
-        gate.go(0, &call);
-    }
-    for call in [Call::WalkBegin, Call::WalkNextBack, Call::WalkNext, Call::WalkNext, Call::PushBack(9), Call::WalkBegin] {
-        gate.go(1, &call);
-    }
-    gate.go(1, &Call::DrainOpen(0, 1));
-    gate.go(1, &Call::DrainNext);
-    gate.go(1, &Call::DrainClose);
-    let good = Walk { head: 6, len: 5, low: 1, high: 4 };
-    let mut all = vec![good, Walk { low: 4, ..good }, Walk { low: 0, high: 5, ..good }];
-    all.extend([8, BIG].map(|head| Walk { head, ..good }));
-    all.extend([3, 9, BIG].map(|len| Walk { len, ..good }));
-    all.extend([5, BIG].map(|low| Walk { low, ..good }));
-    all.extend([0, 6, BIG].map(|high| Walk { high, ..good }));
-    for w in all {
-        let mut world = planted(CAPS[0], 0, 0);
-        world.0[0].walk = Some(w);
-        [Call::WalkNext, Call::WalkNextBack].iter().for_each(|c| gate.put(&world, 0, c));
-    }
-    // A begin that is refused leaves the walk as it was.
-    gate.go(0, &Call::SetRecord(8, 0));
-    gate.go(0, &Call::WalkBegin);
-    gate.go(0, &Call::WalkNext);
-}
-
-/// Images read whole, broken, into too few slots; written into targets around the right length.
-fn images(gate: &mut Stream) {
-    let world = planted(CAPS[0], 6, 5);
-    for n in [0, 1, 2] {
-        broken_images(&new_values(n)).into_iter().for_each(|bytes| gate.put(&world, 0, &Call::ImageRead(bytes)));
-    }
-    for n in [3, 8, 9] {
-        gate.put(&world, 0, &Call::ImageRead(model::image(&new_values(n))));
-        gate.put(&world, 1, &Call::ImageRead(model::image(&new_values(n))));
-    }
-    // 9 elements that don't fit, and a length that is broken as well: 5 comes before 4.
-    gate.put(&world, 0, &Call::ImageRead(model::image(&new_values(9))[..38].to_vec()));
-    gate.put(&world, 0, &Call::ImageRead(model::image(&[0, u32::MAX, 0x0102_0304])));
-    gate.go(0, &Call::ImageWrite(16));
-    for (head, len) in RECORDS {
-        let length = 3 + 4 * len;
-        for target in in_order(vec![0, length - 1, length, length + 1, length + 6]) {
-            gate.put(&planted(CAPS[0], head, len), 0, &Call::ImageWrite(target));
         }
     }
 }
