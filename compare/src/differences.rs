@@ -5,7 +5,7 @@ use crate::calls::Call;
 use crate::exhaustive;
 use crate::judge::{Called, judge};
 use crate::random::{Values, sequence};
-use crate::rust::{Engine, Given, Installed, Rust};
+use crate::rust::{Engine, Given, Heard, Installed, Rust};
 use crate::tally::Tally;
 use crate::world::World;
 
@@ -32,8 +32,9 @@ pub const SEQUENCES: [([usize; 2], usize); 16] = [
     ([16_000, 16_001], 300),
 ];
 
-/// Both engines and their tallies.
+/// Both engines and their tallies, and how often the two did otherwise than each other.
 struct Both {
+    apart: u64,
     given: (Rust<Given>, Tally),
     installed: (Rust<Installed>, Tally),
 }
@@ -42,8 +43,16 @@ impl Both {
     /// Puts one call to both engines in the state `world`, and enters what they did. The state behind it is handed back.
     fn put(&mut self, world: &World, q: usize, call: &Call) -> World {
         let called = Called::by_model(world, q, call);
-        put_to(&mut self.given, &called);
-        put_to(&mut self.installed, &called);
+        let given = put_to(&mut self.given, &called);
+        let installed = put_to(&mut self.installed, &called);
+        if let (Heard::Gave(..), Heard::Gave(..)) = (&given, &installed)
+            && given != installed
+        {
+            println!(
+                "WRONG: the two Rusts differ\n  before: {world}\n  call: {q} {call:?}\n  {given:?}\n  {installed:?}"
+            );
+            self.apart += 1;
+        }
         called.after
     }
 
@@ -55,16 +64,20 @@ impl Both {
     }
 }
 
-/// Puts one call to one engine.
-fn put_to<E: Engine>((rust, tally): &mut (Rust<E>, Tally), called: &Called) {
+/// Puts one call to one engine, and gives what it did.
+fn put_to<E: Engine>((rust, tally): &mut (Rust<E>, Tally), called: &Called) -> Heard {
     let (kind, heard) = judge(rust, called);
     tally.enter(called, &kind, &heard);
+    heard
 }
 
 /// The whole comparison; true if nothing was left unexplained.
 pub fn run() -> bool {
-    let mut both =
-        Both { given: (Rust::new(), Tally::new(Given::NAME)), installed: (Rust::new(), Tally::new(Installed::NAME)) };
+    let mut both = Both {
+        apart: 0,
+        given: (Rust::new(), Tally::new(Given::NAME)),
+        installed: (Rust::new(), Tally::new(Installed::NAME)),
+    };
     for cap in 0..=5 {
         exhaustive::each(cap, &mut |world, q, call| both.put_anew(world, q, call));
     }
@@ -86,7 +99,7 @@ pub fn run() -> bool {
     println!("with the random sequences: {} calls", both.given.1.calls);
     both.given.1.print();
     both.installed.1.print();
-    let wrong = both.given.1.wrong + both.installed.1.wrong;
+    let wrong = both.given.1.wrong + both.installed.1.wrong + both.apart;
     println!(
         "{} calls, each against {} and {}: {wrong} unexplained",
         both.given.1.calls + both.given.1.wrong,

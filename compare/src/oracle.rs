@@ -20,6 +20,9 @@ pub fn tell(text: &str) -> Told {
     let (mut given, mut installed) = (Rust::<Given>::new(), Rust::<Installed>::new());
     let (mut sources, mut wrong) = (vec!["-".to_string()], vec![]);
     let out = interpret(text, |world, q, call| {
+        if on_open_drain(world, q, call) {
+            wrong.push(format!("line {}: a call on a queue whose drain is open", sources.len() + 1));
+        }
         let called = Called::by_model(world, q, call);
         let (kind, heard) = judge(&mut given, &called);
         let (second, _) = judge(&mut installed, &called);
@@ -34,6 +37,13 @@ pub fn tell(text: &str) -> Told {
         outcome.to_string()
     });
     Told { out, sources, wrong }
+}
+
+/// Whether the call breaks the scripts' rule: while a queue's drain is open no other call is made on it.
+fn on_open_drain(world: &World, q: usize, call: &Call) -> bool {
+    let on_both = matches!(call, Call::Append | Call::SplitOff(_) | Call::Equal | Call::Compare);
+    let of_the_drain = matches!(call.words().0, 35..=37 | 91 | 93 | 94);
+    (world.0[q].drain.is_some() && !of_the_drain) || (world.0[1 - q].drain.is_some() && on_both)
 }
 
 /// The Rust's own answer and state where it agrees in everything, else ours; moved is always ours.

@@ -1,5 +1,6 @@
 //! Runs the proved programs on every script and journal and holds what they write against what is expected.
 
+use crate::calls::Call;
 use crate::differences::SEQUENCES;
 use crate::exhaustive::one_of_each;
 use crate::gate;
@@ -29,7 +30,7 @@ pub fn small_scripts() -> Vec<Named> {
     exhaustive_scripts(5).iter().map(|s| Named { name: name(s), text: s.text() }).collect()
 }
 
-/// The random sequences, each call on more than 16,000 slots, and scripts that break off.
+/// The random sequences, each call on more than 16,000 slots, the largest image, and scripts that break off.
 pub fn random_scripts() -> Vec<Named> {
     let mut all = vec![];
     for (seed, (caps, n)) in SEQUENCES.into_iter().enumerate() {
@@ -42,6 +43,8 @@ pub fn random_scripts() -> Vec<Named> {
         let lines = (0..2).flat_map(|q| one_of_each().into_iter().map(move |c| (q, c))).collect();
         all.push(Named { name: format!("limit-{}-{}", caps[0], caps[1]), text: Script { caps, lines }.text() });
     }
+    let full = vec![(0, Call::Resize(16_000, 7)), (0, Call::ImageWrite(64_002)), (0, Call::ImageWrite(64_003))];
+    all.push(Named { name: "image-16000".into(), text: Script { caps: [16_000, 0], lines: full }.text() });
     all.extend(broken_scripts());
     all
 }

@@ -8,7 +8,7 @@ use std::cell::Cell;
 use std::panic::{AssertUnwindSafe, catch_unwind, set_hook, take_hook};
 
 /// What the Rust did with a call.
-#[derive(Debug)]
+#[derive(Debug, PartialEq, Eq)]
 pub enum Heard {
     /// It answered and left this state.
     Gave(Answer, Box<World>),
