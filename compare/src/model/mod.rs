@@ -12,7 +12,7 @@ mod walk;
 pub use drain::is_good as good_drain;
 pub use image::image;
 pub use places::{list, place, runs, step_back};
-pub use search::{halve, searched_run, test_order};
+pub use search::{searched_run, test_order};
 pub use walk::good as good_walk;
 
 use crate::calls::Call;

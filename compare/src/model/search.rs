@@ -6,7 +6,7 @@ use crate::world::Answer;
 use std::cmp::Ordering;
 
 /// Halving: low 0, high n; a look that is less sets low one past it, any other sets high to it. Ends at low.
-pub fn halve(run: &[u32], mut less: impl FnMut(u32) -> bool) -> usize {
+fn halve(run: &[u32], mut less: impl FnMut(u32) -> bool) -> usize {
     let (mut low, mut high) = (0, run.len());
     while low < high {
         let mid = low + (high - low) / 2;
