@@ -1,0 +1,77 @@
+-- `ends::pop_front` meets its contract. Assumes nothing.
+use mathlib.Core.Path.{_≡_, refl}
+use Prim.Native.Nat.{_<_}
+use native.Mathlib.Omega.{arith}
+use borrow.Author.Needs.{needs}
+use denote.Ref.{now}
+use lib.ListN.{length}
+use Rattle.ends.proofs.pops.Laws.{front-none, front-popped}
+use Rattle.queue.proofs.Checks.{passed-zero, Fine, fine, told-first}
+use Rattle.queue.specs.Answers.{recOf}
+use Rattle.rules.specs.Refusals.{onQueue}
+use Rattle.ends.proofs.pops.pop_front.Statement.{statement}
+use Rattle.ends.proofs.pops.pop_front.Tie as tie
+
+-- past the first tests nothing is refused
+past : (c : tie.After-enum-told) → onQueue (length (now (c .before .before .before .before .args .slots))) (recOf (c .before .before .before .before .args .q)) 0 ≡ 0
+past c = passed-zero _ _ (c .before .before .check .ensures) (c .enum-told .given .1)
+
+ok : (c : tie.After-enum-told) → Fine (now (c .before .before .before .before .args .slots)) (recOf (c .before .before .before .before .args .q))
+ok c = fine _ _ (past c)
+
+-- the slot that is read
+slot : (c : tie.After-as-index) → c .as-index .result < length (now (c .before .before .before .before .before .before .before .args .slots))
+slot c = let g = ok (c .before .before .before) .good in omega (arith, c .as-index .ensures)
+
+check-requires : tie.Need-check-requires
+check-requires c κs = search needs
+
+enum-known-refusal : tie.Need-enum-known-refusal
+enum-known-refusal c = search needs
+
+returns : tie.Need-returns
+returns c = told-first _ _ _ (c .before .before .before .check .ensures) _ _ (c .before .refusal .given .1)
+
+enum-told : tie.Need-enum-told
+enum-told c = search needs
+
+returns-2 : tie.Need-returns-2
+returns-2 c = front-none _ _ (past (c .before)) (c .if1 .taken)
+
+as-index-requires : tie.Need-as-index-requires
+as-index-requires c κs = search needs
+
+mul-number : tie.Need-mul-number
+mul-number c = let k = slot c in omega arith
+
+shared-slice-read-number : tie.Need-shared-slice-read-number
+shared-slice-read-number c = slot (c .before)
+
+wrap-add-requires : tie.Need-wrap-add-requires
+wrap-add-requires c κs = let g = ok (c .before .before .before .before) .good in omega arith
+
+sub-stepped : tie.Need-sub-stepped
+sub-stepped c = search needs
+
+stepped-requires : tie.Need-stepped-requires
+stepped-requires c κs = search needs
+
+returns-3 : tie.Need-returns-3
+returns-3 c = front-popped _ _ (past (c .before .before .before .before .before .before)) _ _ _ _ (c .before .before .before .before .before .if1 .left) (c .before .before .before .as-index .ensures) refl (c .before .wrap-add .ensures) (c .stepped .ensures)
+
+pub pop-front-spec : {M : Type 1} → statement M
+pop-front-spec =
+    tie.close
+    (tie.spec
+    check-requires
+    enum-known-refusal
+    returns
+    enum-told
+    returns-2
+    as-index-requires
+    mul-number
+    shared-slice-read-number
+    wrap-add-requires
+    sub-stepped
+    stepped-requires
+    returns-3)

@@ -1,0 +1,2 @@
+-- One law for each return of a push; a function's proof applies them.
+mod Laws

@@ -1,0 +1,81 @@
+-- `joins::queues::append` meets its contract. Assumes nothing.
+use mathlib.Core.Path.{_≡_}
+use native.Mathlib.Omega.{arith}
+use borrow.Author.Needs.{needs}
+use denote.Ref.{now}
+use lib.ListN.{length}
+use Rattle.joins.proofs.Asks.{Appends, appends}
+use Rattle.joins.proofs.Pairs.{append-refused, append-none, append-done}
+use Rattle.queue.proofs.Checks.{passed-zero, Fine, fine}
+use Rattle.queue.specs.Answers.{recOf}
+use Rattle.rules.proofs.Places.{place-low}
+use Rattle.rules.specs.Pairs.{onAppending}
+use Rattle.joins.proofs.queues.append.Statement.{statement}
+use Rattle.joins.proofs.queues.append.Tie as tie
+
+-- past the tests nothing is refused
+past : (c : tie.After-enum-told) → onAppending (length (now (c .before .before .before .before .before .args .slots))) (recOf (c .before .before .before .before .before .args .q)) (length (now (c .before .before .before .before .before .args .other-slots))) (recOf (c .before .before .before .before .before .args .other)) ≡ 0
+past c = passed-zero _ _ (c .before .before .check-append .ensures) (c .enum-told .given .1)
+
+ok : (c : tie.After-enum-told) → Appends (now (c .before .before .before .before .before .args .slots)) (recOf (c .before .before .before .before .before .args .q)) (now (c .before .before .before .before .before .args .other-slots)) (recOf (c .before .before .before .before .before .args .other))
+ok c = appends _ _ _ _ (past c)
+
+good : (c : tie.After-enum-told) → Fine (now (c .before .before .before .before .before .args .slots)) (recOf (c .before .before .before .before .before .args .q))
+good c = fine _ _ (ok c .ours)
+
+check-append-requires : tie.Need-check-append-requires
+check-append-requires c κs = search needs
+
+enum-known-refusal : tie.Need-enum-known-refusal
+enum-known-refusal c = search needs
+
+returns : tie.Need-returns
+returns c = append-refused _ _ _ _ _ _ (c .before .before .before .check-append .ensures) (c .before .refusal .given .1)
+
+enum-told : tie.Need-enum-told
+enum-told c = search needs
+
+zero-requires : tie.Need-zero-requires
+zero-requires c κs = search needs
+
+stepped-requires : tie.Need-stepped-requires
+stepped-requires c κs = search needs
+
+returns-2 : tie.Need-returns-2
+returns-2 c = append-none _ _ _ _ (past (c .before .before .before)) _ (c .before .before .zero .ensures) _ (c .before .stepped .ensures) (c .if1 .taken)
+
+wrap-add-requires : tie.Need-wrap-add-requires
+wrap-add-requires c κs = let g = good (c .before .before .before .before .before) in omega arith
+
+copy-runs-requires : tie.Need-copy-runs-requires
+copy-runs-requires c κs = let g = good (c .before .before .before .before .before .before) .good in let k = ok (c .before .before .before .before .before .before) .fits in (ok (c .before .before .before .before .before .before) .theirs, (omega arith, omega arith, omega (arith, c .wrap-add .ensures, place-low (length (now (c .before .before .before .before .before .before .before .before .before .before .before .args .slots))) (c .before .before .before .before .before .before .before .before .before .before .before .args .q .head .0) (omega arith) (c .before .before .before .before .before .before .before .before .before .before .before .args .q .len) (omega arith))))
+
+add-stepped : tie.Need-add-stepped
+add-stepped c = let g = good (c .before .before .before .before .before .before .before .before .before) in let k = ok (c .before .before .before .before .before .before .before .before .before) .fits in omega arith
+
+stepped-requires-2 : tie.Need-stepped-requires-2
+stepped-requires-2 c κs = search needs
+
+same-length : tie.Need-same-length
+same-length c = search needs
+
+returns-3 : tie.Need-returns-3
+returns-3 c = append-done _ _ _ _ (past (c .before .before .before .before .before .before .before .before .before .before)) _ (c .before .before .before .before .before .before .before .before .before .zero .ensures) _ (c .before .before .before .before .before .before .before .before .stepped .ensures) _ _ _ (c .before .before .before .before .before .before .before .if1 .left) (c .before .before .before .before .wrap-add .ensures) (c .before .before .before .copy-runs .ensures) (c .stepped2 .ensures)
+
+pub append-spec : {M : Type 1} → statement M
+append-spec =
+    tie.close
+    (tie.spec
+    check-append-requires
+    enum-known-refusal
+    returns
+    enum-told
+    zero-requires
+    stepped-requires
+    returns-2
+    wrap-add-requires
+    copy-runs-requires
+    add-stepped
+    stepped-requires-2
+    same-length
+    returns-3)

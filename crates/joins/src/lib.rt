@@ -1,0 +1,41 @@
+// The calls that join lists.
+mod queues; // queues.rt: another queue's elements behind ours, and our later elements into a bare target
+mod values; // values.rt: a lent slice, or copies of one number
+
+use queue::Deque;
+use queue::Refusal;
+pub use queues::append;
+pub use queues::split_off;
+pub use values::extend;
+pub use values::extend_front;
+pub use values::prepend;
+pub use values::resize;
+
+// The answer of `append`. A refusal hands back the same records.
+pub enum Joined {
+    Done {
+        queue: Deque,
+        other: Deque,
+        moved: usize,
+    },
+    Refused {
+        refusal: Refusal,
+        queue: Deque,
+        other: Deque,
+        moved: usize,
+    },
+}
+
+// The answer of `split_off`. A refusal hands back the same record, and makes none.
+pub enum Split {
+    Done {
+        queue: Deque,
+        target: Deque,
+        moved: usize,
+    },
+    Refused {
+        refusal: Refusal,
+        queue: Deque,
+        moved: usize,
+    },
+}

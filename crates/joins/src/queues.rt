@@ -1,0 +1,134 @@
+// Another queue's elements behind ours, and our later elements into a bare target.
+use super::Joined;
+use super::Split;
+use places::WrappedIndex;
+use queue::Checked;
+use queue::Deque;
+use queue::Refusal;
+ghost use mathlib.Core.Path.{_≡_};
+ghost use Prim.Native.Nat.{_-_, _≤_, _<_};
+ghost use lib.ListN.{length, drop};
+ghost use Rattle.rules.specs.Pairs.{onAppending, onSplitting, doAppend, doSplit, toldPairing};
+ghost use Rattle.rules.specs.Records.{held};
+ghost use Rattle.rules.specs.Refusals.{onQueue};
+ghost use Rattle.rules.specs.Slots.{lay};
+ghost use Rattle.queue.specs.Answers.{recOf, numberIn};
+ghost use Rattle.joins.specs.Answers.{ofJoined, ofSplit};
+
+// The tests of `append`, in their order: our queue's, the other's, then whether the other's elements fit behind ours.
+fn check_append(cap: usize, q: Deque, other_cap: usize, other: Deque) -> Checked
+    ensures { λ r. ⌜ numberIn r ≡ onAppending cap (recOf q) «other_cap» (recOf other) ⌝ }
+{
+    if let Checked::Refused(refusal) = queue::check(cap, q) {
+        return Checked::Refused(refusal);
+    }
+    if let Checked::Refused(refusal) = queue::check(other_cap, other) {
+        return Checked::Refused(refusal);
+    }
+    if other.len > cap - q.len {
+        return Checked::Refused(Refusal::Room);
+    }
+    Checked::Good
+}
+
+// The tests of `split_off`, in their order: our queue's, the bare target's slots, the position, then whether the later elements fit.
+fn check_split(cap: usize, q: Deque, target_cap: usize, at: usize) -> Checked
+    ensures { λ r. ⌜ numberIn r ≡ onSplitting cap (recOf q) «target_cap» at ⌝ }
+{
+    if let Checked::Refused(refusal) = queue::check(cap, q) {
+        return Checked::Refused(refusal);
+    }
+    if target_cap > rules::most_slots() {
+        return Checked::Refused(Refusal::Slots);
+    }
+    let len = q.len;
+    if at > len {
+        return Checked::Refused(Refusal::Position);
+    }
+    if len - at > target_cap {
+        return Checked::Refused(Refusal::Room);
+    }
+    Checked::Good
+}
+
+// Copies a queue's elements from position `start` on into other slots from `dst` on: the front run, and behind it the back run.
+fn copy_runs(slots: &mut [u32], dst: WrappedIndex, from: &[u32], q: Deque, start: usize)
+    requires { ⌜ onQueue (length (now from)) (recOf q) 0 ≡ 0 ⌝ }
+    requires { ⌜ (start ≤ q .len) × (q .len - start ≤ length (now slots)) × (dst .0 < length (now slots)) ⌝ }
+    ensures { λ _. ⌜ now (slots .exit) ≡ lay (now (slots .entry)) (dst .0) (drop start (held (now (from .entry)) (recOf q))) ⌝ }
+{
+    let cap = slots.len();
+    let end = q.len;
+    let front = runs::front_run(from, q, start, end);
+    let back = runs::back_run(from, q, start, end);
+    let behind = places::wrap_add(cap, dst, front.len());
+    copies::copy_slice(slots, dst, front);
+    copies::copy_slice(slots, behind, back);
+}
+
+// Copies the other queue's elements behind ours, and empties the other.
+pub fn append(slots: &mut [u32], q: Deque, other_slots: &[u32], other: Deque) -> Joined
+    ensures { λ r. ⌜ (ofJoined r, now (slots .exit), now («other_slots» .entry)) ≡ toldPairing (doAppend (now (slots .entry)) (recOf q) (now («other_slots» .entry)) (recOf other)) ⌝ }
+{
+    let cap = slots.len();
+    if let Checked::Refused(refusal) = check_append(cap, q, other_slots.len(), other) {
+        return Joined::Refused {
+            refusal,
+            queue: q,
+            other,
+            moved: 0,
+        };
+    }
+    let emptied = queue::stepped(other, WrappedIndex::zero(), 0);
+    let moved = other.len;
+    if moved == 0 {
+        return Joined::Done {
+            queue: q,
+            other: emptied,
+            moved: 0,
+        };
+    }
+    let len = q.len;
+    let head = q.head;
+    copy_runs(
+        slots,
+        places::wrap_add(cap, head, len),
+        other_slots,
+        other,
+        0,
+    );
+    Joined::Done {
+        queue: queue::stepped(q, head, len + moved),
+        other: emptied,
+        moved,
+    }
+}
+
+// Fills a bare target from its first slot on with the elements from position `at` on, which leaves the first `at` in ours.
+pub fn split_off(slots: &[u32], q: Deque, at: usize, target: &mut [u32]) -> Split
+    ensures { λ r. ⌜ (ofSplit r, now (slots .entry), now (target .exit)) ≡ toldPairing (doSplit (now (slots .entry)) (recOf q) (now (target .entry)) at) ⌝ }
+{
+    if let Checked::Refused(refusal) = check_split(slots.len(), q, target.len(), at) {
+        return Split::Refused {
+            refusal,
+            queue: q,
+            moved: 0,
+        };
+    }
+    let kept = queue::stepped(q, q.head, at);
+    let moved = q.len - at;
+    let made = queue::new_record(moved);
+    if moved == 0 {
+        return Split::Done {
+            queue: kept,
+            target: made,
+            moved: 0,
+        };
+    }
+    copy_runs(target, WrappedIndex::zero(), slots, q, at);
+    Split::Done {
+        queue: kept,
+        target: made,
+        moved,
+    }
+}

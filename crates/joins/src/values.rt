@@ -1,0 +1,131 @@
+// A lent slice behind a queue's elements or in front of them, and copies of one number behind them.
+use queue::Change;
+use queue::Checked;
+use queue::Deque;
+use queue::Refusal;
+ghost use mathlib.Core.Path.{_≡_};
+ghost use Prim.Native.Nat.{_+_};
+ghost use Rattle.rules.specs.Joins.{extendWith, prepend, extendFront, resize};
+ghost use Rattle.rules.specs.Outcome.{told, doRule};
+ghost use Rattle.rules.specs.Refusals.{onQueue, room};
+ghost use Rattle.queue.specs.Answers.{recOf, numberIn, ofChange};
+
+// The tests of a call that adds `n` elements, in their order.
+fn check_more(cap: usize, q: Deque, n: usize) -> Checked
+    ensures { λ r. ⌜ numberIn r ≡ onQueue cap (recOf q) (room cap (q .len + n)) ⌝ }
+{
+    if let Checked::Refused(refusal) = queue::check(cap, q) {
+        return Checked::Refused(refusal);
+    }
+    if n > cap - q.len {
+        return Checked::Refused(Refusal::Room);
+    }
+    Checked::Good
+}
+
+// Appends the values.
+pub fn extend(slots: &mut [u32], q: Deque, values: &[u32]) -> Change
+    ensures { λ r. ⌜ (ofChange r, now (slots .exit)) ≡ told (doRule (now (slots .entry)) (recOf q) (extendWith (now (values .entry)))) ⌝ }
+{
+    let cap = slots.len();
+    let n = values.len();
+    if let Checked::Refused(refusal) = check_more(cap, q, n) {
+        return Change::Refused {
+            refusal,
+            queue: q,
+            moved: 0,
+        };
+    }
+    if n == 0 {
+        return Change::Done { queue: q, moved: 0 };
+    }
+    let len = q.len;
+    let head = q.head;
+    copies::copy_slice(slots, places::wrap_add(cap, head, len), values);
+    Change::Done {
+        queue: queue::stepped(q, head, len + n),
+        moved: 0,
+    }
+}
+
+// Puts the values in front, in their order.
+pub fn prepend(slots: &mut [u32], q: Deque, values: &[u32]) -> Change
+    ensures { λ r. ⌜ (ofChange r, now (slots .exit)) ≡ told (doRule (now (slots .entry)) (recOf q) (prepend (now (values .entry)))) ⌝ }
+{
+    let cap = slots.len();
+    let n = values.len();
+    if let Checked::Refused(refusal) = check_more(cap, q, n) {
+        return Change::Refused {
+            refusal,
+            queue: q,
+            moved: 0,
+        };
+    }
+    if n == 0 {
+        return Change::Done { queue: q, moved: 0 };
+    }
+    let head = places::wrap_sub(cap, q.head, n);
+    copies::copy_slice(slots, head, values);
+    Change::Done {
+        queue: queue::stepped(q, head, q.len + n),
+        moved: 0,
+    }
+}
+
+// Puts the values in front, the last of them first.
+pub fn extend_front(slots: &mut [u32], q: Deque, values: &[u32]) -> Change
+    ensures { λ r. ⌜ (ofChange r, now (slots .exit)) ≡ told (doRule (now (slots .entry)) (recOf q) (extendFront (now (values .entry)))) ⌝ }
+{
+    let cap = slots.len();
+    let n = values.len();
+    if let Checked::Refused(refusal) = check_more(cap, q, n) {
+        return Change::Refused {
+            refusal,
+            queue: q,
+            moved: 0,
+        };
+    }
+    if n == 0 {
+        return Change::Done { queue: q, moved: 0 };
+    }
+    let head = places::wrap_sub(cap, q.head, n);
+    copies::copy_slice_reversed(slots, head, values);
+    Change::Done {
+        queue: queue::stepped(q, head, q.len + n),
+        moved: 0,
+    }
+}
+
+// Truncates to the first `n` elements, or appends copies of `v` up to `n`.
+pub fn resize(slots: &mut [u32], q: Deque, n: usize, v: u32) -> Change
+    ensures { λ r. ⌜ (ofChange r, now (slots .exit)) ≡ told (doRule (now (slots .entry)) (recOf q) (resize n v)) ⌝ }
+{
+    let cap = slots.len();
+    if let Checked::Refused(refusal) = queue::check(cap, q) {
+        return Change::Refused {
+            refusal,
+            queue: q,
+            moved: 0,
+        };
+    }
+    if n > cap {
+        return Change::Refused {
+            refusal: Refusal::Room,
+            queue: q,
+            moved: 0,
+        };
+    }
+    let len = q.len;
+    let head = q.head;
+    if n <= len {
+        return Change::Done {
+            queue: queue::stepped(q, head, n),
+            moved: 0,
+        };
+    }
+    copies::fill_slots(slots, places::wrap_add(cap, head, len), n - len, v);
+    Change::Done {
+        queue: queue::stepped(q, head, n),
+        moved: 0,
+    }
+}

@@ -1,0 +1,66 @@
+-- `middle::before_first_rejected` meets its contract. The loop's invariant: what passed so far, and that the count of the rest is still to be added.
+-- Assumes nothing.
+use Prim.Native.Nat.{_-_}
+use borrow.Author.Needs.{needs}
+use Rattle.conditions.specs.Tests.{testOf}
+use Rattle.middle.proofs.Stages.{Passing, passing-none, passing-on, passing-out, passing-all}
+use Rattle.rules.specs.Conditions.{meets}
+use Rattle.middle.proofs.retaining.before_first_rejected.Statement.{statement}
+use Rattle.middle.proofs.retaining.before_first_rejected.Tie as tie
+
+abbrev Inv-loop : tie.InvT-loop
+Inv-loop slots len test cap from₀ kept₀ from kept = Passing (meets (testOf test)) slots (from₀ .0) len (from .0) kept
+
+abbrev μ-loop : tie.MeasureT-loop
+μ-loop slots len test cap from₀ kept₀ from kept = len - kept
+
+loop-holds : tie.Need-loop-holds Inv-loop μ-loop
+loop-holds c = passing-none _ _ _ _ (c .before .pre .1) (c .before .pre .0)
+
+as-index-requires : tie.Need-as-index-requires Inv-loop μ-loop
+as-index-requires c κs = search needs
+
+mul-meets : tie.Need-mul-meets Inv-loop μ-loop
+mul-meets c = search needs
+
+shared-slice-read-meets : tie.Need-shared-slice-read-meets Inv-loop μ-loop
+shared-slice-read-meets c = search needs
+
+meets-requires : tie.Need-meets-requires Inv-loop μ-loop
+meets-requires c κs = search needs
+
+wrap-add-requires : tie.Need-wrap-add-requires Inv-loop μ-loop
+wrap-add-requires c κs = search needs
+
+add-kept : tie.Need-add-kept Inv-loop μ-loop
+add-kept c = search needs
+
+loop-less : tie.Need-loop-less Inv-loop μ-loop
+loop-less c = search needs
+
+loop-again : tie.Need-loop-again Inv-loop μ-loop
+loop-again c = passing-on _ _ _ _ (c .before .before .before .before .before .before .before .before .pre .1) _ _ (c .before .before .before .before .before .before .loop .inv) (c .before .before .before .before .before .loop-test .taken) _ _ (c .before .before .before .before .as-index .ensures) (c .before .before .meets .ensures) _ (c .before .if1 .taken) (c .wrap-add .ensures)
+
+returns : tie.Need-returns Inv-loop μ-loop
+returns c = passing-out _ _ _ _ (c .before .before .before .before .before .before .before .pre .1) _ _ (c .before .before .before .before .before .loop .inv) (c .before .before .before .before .loop-test .taken) _ _ (c .before .before .before .as-index .ensures) (c .before .meets .ensures) (c .if1 .left)
+
+returns-2 : tie.Need-returns-2 Inv-loop μ-loop
+returns-2 c = passing-all _ _ _ _ (c .before .before .before .pre .1) _ _ (c .before .loop .inv) (c .loop-test .left)
+
+pub before-first-rejected-spec : {M : Type 1} → statement M
+before-first-rejected-spec =
+    tie.close
+    (tie.spec
+    Inv-loop
+    μ-loop
+    loop-holds
+    as-index-requires
+    mul-meets
+    shared-slice-read-meets
+    meets-requires
+    wrap-add-requires
+    add-kept
+    loop-less
+    loop-again
+    returns
+    returns-2)

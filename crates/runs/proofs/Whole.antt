@@ -1,0 +1,84 @@
+-- The front run and behind it the back run are the range. Assumes nothing.
+use mathlib.Core.List.{List, _∷_, _++_, append-nil}
+use mathlib.Core.Logic.{_≢_, ⊎-elim}
+use mathlib.Core.Path.{_≡_, refl, _∙_, ap, sym}
+use Prim.Native.Nat.{ℕ, _+_, _≤_, zero, suc, _-_, _<_}
+use native.Mathlib.Nat.{sub-zero}
+use native.Mathlib.Numerals.{add-one}
+use native.Mathlib.Omega.{arith}
+use borrow.Author.Tests.{le-leb}
+use lib.ListN.{length, take, drop, getD}
+use lib.Seq.{drop-cons, take-all}
+use Rattle.rules.proofs.Held.{length-held}
+use Rattle.rules.proofs.Places.{wrapped-low, place-low, wrapped-high}
+use Rattle.rules.proofs.Refusals.{queue-ok, range-ok, queue-go}
+use Rattle.rules.proofs.Ring.{read-add}
+use Rattle.rules.proofs.Slots.{listOf-none, listOf-drop, listOf-take}
+use Rattle.rules.proofs.Tests.{unless-go, lt-or-ge}
+use Rattle.rules.specs.Places.{place}
+use Rattle.rules.specs.Records.{Rec, held}
+use Rattle.rules.specs.Refusals.{onQueue, inRange}
+use Rattle.rules.specs.Runs.{TwoRuns, part, runs, onRange, frontRun, backRun, runsOr}
+use Rattle.rules.specs.Slots.{read}
+use Rattle.rules.specs.Tests.{ask}
+use Rattle.runs.proofs.Cases.{by-runs}
+
+-- where the ring does not end on the way, a stretch is a part of the slots
+read-straight : (cap : ℕ) (b : List ℕ) (h n : ℕ) → cap ≡ length b → h + n ≤ cap → read cap b h n ≡ take n (drop h b)
+unfolding read
+read-straight cap b h zero c q = refl
+read-straight cap b h (suc zero) c q = rw (drop-cons b h 0 (omega arith))
+read-straight cap b h (suc (suc n)) c q =
+    let next : place cap h 1 ≡ suc h = wrapped-low cap (h + 1) (omega arith) ∙ add-one h in
+    rw (next, drop-cons b h 0 (omega arith)) (ap (λ (l : List ℕ). getD b h 0 ∷ l) (read-straight cap b (suc h) (suc n) c (omega arith)))
+
+-- one run behind the other
+abbrev joined : List ℕ → TwoRuns → List ℕ
+joined b t = part b (t .front) ++ part b (t .back)
+
+module _ (b : List ℕ) (h s e : ℕ) (good : h ≤ length b - 1) (le : s ≤ e) (fits : e ≤ length b) where
+  in-ring : s ≢ e → place (length b) h s < length b
+  in-ring differ = place-low (length b) h (omega arith) s (omega arith)
+
+  joined-runs : joined b (runs (length b) h s e) ≡ read (length b) b (place (length b) h s) (e - s)
+  unfolding part
+  joined-runs =
+      let cap = length b in
+      let w = place cap h s in
+      by-runs cap h s e (λ (t : TwoRuns). joined b t ≡ read cap b w (e - s))
+      (λ same. let empty : 0 ≡ e - s = omega arith in sym (listOf-none b w) ∙ ap (read cap b w) empty)
+      (λ differ room.
+      let long : w + (e - s) - w ≡ e - s = omega arith in
+      append-nil _ ∙ ap (λ (k : ℕ). take k (drop w b)) long ∙ sym (read-straight cap b w (e - s) refl (omega (arith, in-ring differ))))
+      (λ differ over.
+      let k = in-ring differ in
+      let rest = e - s - (cap - w) in
+      let back : place cap w (cap - w) ≡ 0 = wrapped-high cap (w + (cap - w)) (omega arith) ∙ omega arith in
+      let parts : e - s ≡ cap - w + rest = omega arith in
+      sym (ap (read cap b w) parts ∙ read-add cap b w (cap - w) rest k (omega arith)
+      ∙ rw (back, read-straight cap b w (cap - w) refl (omega arith), read-straight cap b 0 rest refl (omega arith), sub-zero rest)))
+
+module _ (b : List ℕ) (r : Rec) where
+  -- an accepted range: its runs are the range's elements, in order
+  pub runs-range : (s e : ℕ) → onRange (length b) r s e ≡ 0 → frontRun b r s e ++ backRun b r s e ≡ take (e - s) (drop s (held b r))
+  unfolding frontRun backRun runsOr onRange held
+  runs-range s e z =
+      let q = queue-ok (length b) r _ z in
+      let g = q .0 in
+      let k = range-ok (r .len) s e 0 (q .1) in
+      ap (joined b) (unless-go (onRange (length b) r s e) (runs (length b) (r .head) s e) _ z)
+      ∙ joined-runs b (r .head) s e (g .placed) (k .0) (omega arith)
+      ∙ ⊎-elim
+      (λ lt.
+      let h : r .head < length b = omega arith in
+      sym (ap (take (e - s)) (listOf-drop b (r .head) h s (r .len) (omega arith) (g .fits))
+      ∙ listOf-take b (place (length b) (r .head) s) (place-low (length b) (r .head) h s (omega arith)) (e - s) (r .len - s) (omega arith) (omega arith)))
+      (λ ge. let empty : e - s ≡ 0 = omega arith in rw empty (listOf-none b _))
+      (lt-or-ge s e)
+
+  -- the whole queue
+  pub runs-held : onQueue (length b) r 0 ≡ 0 → frontRun b r 0 (r .len) ++ backRun b r 0 (r .len) ≡ held b r
+  unfolding onRange inRange ask
+  runs-held z =
+      runs-range 0 (r .len) (queue-go (length b) r _ z ∙ rw (le-leb 0 (r .len) (omega arith), le-leb (r .len) (r .len) (omega arith)))
+      ∙ take-all (r .len - 0) (held b r) (omega (arith, length-held b r))

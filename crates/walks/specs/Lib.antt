@@ -1,0 +1,2 @@
+-- The answers as the public contracts read them.
+pub mod Answers
