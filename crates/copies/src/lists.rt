@@ -32,10 +32,11 @@ pub fn copy_slice_reversed(slots: &mut [u32], dst: WrappedIndex, src: &[u32])
 {
     let w = dst.as_index();
     let head_room = slots.len() - w;
-    if src.len() <= head_room {
+    let n = src.len();
+    if n <= head_room {
         copy_in_reversed(&mut slots[w..], src);
     } else {
-        let left = src.len() - head_room;
+        let left = n - head_room;
         copy_in_reversed(&mut slots[w..], &src[left..]);
         copy_in_reversed(slots, &src[..left]);
     }

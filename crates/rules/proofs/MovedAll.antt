@@ -18,7 +18,7 @@ use Rattle.rules.proofs.MovedSwaps.{exchange-moved, swapRemoveFront-mov
 use Rattle.rules.proofs.Refusals.{Good}
 use Rattle.rules.proofs.Slots.{length-lay}
 use Rattle.rules.proofs.Tests.{when-accepted}
-use Rattle.rules.specs.Calls.{Op, rule, pushBack!, pushFront!, popFront!, popBack!, popFrontIf!, popBackIf!, truncate!, truncateFront!, clear!, extend!, prepend!, extendFront!, resize!, insert!, remove!, swap!, swapRemoveFront!, swapRemoveBack!, retain!, splice!}
+use Rattle.rules.specs.Calls.{Op, rule, pushBack!, pushFront!, popFront!, popBack!, popFrontIf!, popBackIf!, truncate!, truncateFront!, clear!, extend!, prepend!, extendFront!, resize!, insert!, remove!, swap!, swapRemoveFront!, swapRemoveBack!, retain!, splice! }
 use Rattle.rules.specs.Drains.{Drain, during, handable, spread, opened, onOpening, fromFront, fromBack, closedRec, onDrain}
 use Rattle.rules.specs.Images.{elementsIn, laidOut, howMany}
 use Rattle.rules.specs.Makes.{madeWith, noneMade, fresh, readImage}

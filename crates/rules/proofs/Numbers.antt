@@ -6,7 +6,7 @@ use Prim.Native.Nat.{ℕ, zero, suc, _-_}
 use lib.ListN.{take, drop, set, getD, replicate, length-map, length}
 use Rattle.rules.proofs.MovedEnds.{passes-number}
 use Rattle.rules.proofs.Tests.{by-test₂}
-use Rattle.rules.specs.Calls.{Op, rule, pushBack!, pushFront!, popFront!, popBack!, popFrontIf!, popBackIf!, truncate!, truncateFront!, clear!, extend!, prepend!, extendFront!, resize!, insert!, remove!, swap!, swapRemoveFront!, swapRemoveBack!, retain!, splice!}
+use Rattle.rules.specs.Calls.{Op, rule, pushBack!, pushFront!, popFront!, popBack!, popFrontIf!, popBackIf!, truncate!, truncateFront!, clear!, extend!, prepend!, extendFront!, resize!, insert!, remove!, swap!, swapRemoveFront!, swapRemoveBack!, retain!, splice! }
 use Rattle.rules.specs.Conditions.{those, meets}
 use Rattle.rules.specs.Ends.{pushBack, pushFront, popFront, popBack, popFrontIf, popBackIf, truncate, truncateFront, clear, exchange, swapRemoveFront, swapRemoveBack}
 use Rattle.rules.specs.Joins.{extendWith, prepend, extendFront, resize}

@@ -1,7 +1,7 @@
 -- Document 01's twelve marked examples, as cases and as the numbers that the paper gives for each. Assumes nothing.
 use mathlib.Core.List.{List, _∷_, [], _++_}
 use Prim.Native.Nat.{ℕ}
-use Rattle.rules.specs.Calls.{Op, rule, truncateFront!, splice!, retain!}
+use Rattle.rules.specs.Calls.{Op, rule, truncateFront!, splice!, retain! }
 use Rattle.rules.specs.Conditions.{below}
 use Rattle.rules.specs.Images.{imageOf}
 use Rattle.rules.specs.Journals.{closing}

@@ -3,78 +3,77 @@ use mathlib.Core.Path.{refl}
 use native.Mathlib.Omega.{arith}
 use denote.Ref.{now}
 use Rattle.copies.proofs.Order.{way, on, over, down}
-use borrow.Author.Needs.{needs}
 use Rattle.copies.proofs.wraps.copy_src_before_dst.Statement.{statement}
 use Rattle.copies.proofs.wraps.copy_src_before_dst.Tie as tie
 
 as-index-requires : tie.Need-as-index-requires
-as-index-requires c κs = search needs
+as-index-requires c κs = omega arith
 
 sub-src-pre-wrap-len : tie.Need-sub-src-pre-wrap-len
-sub-src-pre-wrap-len c = search needs
+sub-src-pre-wrap-len c = omega arith
 
 as-index-requires-2 : tie.Need-as-index-requires-2
-as-index-requires-2 c κs = search needs
+as-index-requires-2 c κs = omega arith
 
 sub-dst-pre-wrap-len : tie.Need-sub-dst-pre-wrap-len
-sub-dst-pre-wrap-len c = search needs
+sub-dst-pre-wrap-len c = omega arith
 
 copy-requires : tie.Need-copy-requires
-copy-requires c κs = search needs
+copy-requires c κs = omega arith
 
 add-requires : tie.Need-add-requires
-add-requires c κs = search needs
+add-requires c κs = omega arith
 
 zero-requires : tie.Need-zero-requires
-zero-requires c κs = search needs
+zero-requires c κs = omega arith
 
 sub-copy : tie.Need-sub-copy
-sub-copy c = search needs
+sub-copy c = omega arith
 
 copy-requires-2 : tie.Need-copy-requires-2
-copy-requires-2 c κs = search needs
+copy-requires-2 c κs = omega arith
 
 copy-requires-3 : tie.Need-copy-requires-3
-copy-requires-3 c κs = search needs
+copy-requires-3 c κs = omega arith
 
 zero-requires-2 : tie.Need-zero-requires-2
-zero-requires-2 c κs = search needs
+zero-requires-2 c κs = omega arith
 
 add-requires-2 : tie.Need-add-requires-2
-add-requires-2 c κs = search needs
+add-requires-2 c κs = omega arith
 
 sub-copy-2 : tie.Need-sub-copy-2
-sub-copy-2 c = search needs
+sub-copy-2 c = omega arith
 
 copy-requires-4 : tie.Need-copy-requires-4
-copy-requires-4 c κs = search needs
+copy-requires-4 c κs = omega arith
 
 copy-requires-5 : tie.Need-copy-requires-5
-copy-requires-5 c κs = search needs
+copy-requires-5 c κs = omega arith
 
 sub-delta : tie.Need-sub-delta
 sub-delta c = let w = way _ _ _ (c .before .before .before .before .before .pre .0 .0) (c .before .before .before .before .before .pre .0 .1) in omega arith
 
 zero-requires-3 : tie.Need-zero-requires-3
-zero-requires-3 c κs = search needs
+zero-requires-3 c κs = omega arith
 
 from-arbitrary-number-requires : tie.Need-from-arbitrary-number-requires
-from-arbitrary-number-requires c κs = search needs
+from-arbitrary-number-requires c κs = omega arith
 
 sub-copy-3 : tie.Need-sub-copy-3
-sub-copy-3 c = search needs
+sub-copy-3 c = omega arith
 
 copy-requires-6 : tie.Need-copy-requires-6
-copy-requires-6 c κs = search needs
+copy-requires-6 c κs = omega arith
 
 sub-from-arbitrary-number : tie.Need-sub-from-arbitrary-number
-sub-from-arbitrary-number c = search needs
+sub-from-arbitrary-number c = omega arith
 
 from-arbitrary-number-requires-2 : tie.Need-from-arbitrary-number-requires-2
-from-arbitrary-number-requires-2 c κs = search needs
+from-arbitrary-number-requires-2 c κs = omega arith
 
 zero-requires-4 : tie.Need-zero-requires-4
-zero-requires-4 c κs = search needs
+zero-requires-4 c κs = omega arith
 
 copy-requires-7 : tie.Need-copy-requires-7
 copy-requires-7 c κs = let w = way _ _ _ (c .before .before .before .before .before .before .before .before .before .before .before .before .before .before .pre .0 .0) (c .before .before .before .before .before .before .before .before .before .before .before .before .before .before .pre .0 .1) in omega arith
@@ -83,13 +82,13 @@ copy-requires-8 : tie.Need-copy-requires-8
 copy-requires-8 c κs = let w = way _ _ _ (c .before .before .before .before .before .before .before .before .before .before .before .before .before .before .before .before .before .before .pre .0 .0) (c .before .before .before .before .before .before .before .before .before .before .before .before .before .before .before .before .before .before .pre .0 .1) in omega arith
 
 same-length : tie.Need-same-length
-same-length c = search needs
+same-length c = omega arith
 
 returns : tie.Need-returns
-returns c = search needs
+returns c = c .before .before .copy .ensures
 
 same-length-2 : tie.Need-same-length-2
-same-length-2 c = search needs
+same-length-2 c = omega arith
 
 returns-2 : tie.Need-returns-2
 returns-2 c =
@@ -98,7 +97,7 @@ returns-2 c =
     down (now (st .args .slots)) _ _ _ (st .pre .0 .0) (w .0) (w .1) _ _ _ _ _ _ (st .args .len) (c .before .before .before .before .before .before .copy2 .ensures) (c .before .before .copy3 .ensures) (on (omega arith)) (over (omega arith)) (omega arith) (st .pre .1 .1)
 
 same-length-3 : tie.Need-same-length-3
-same-length-3 c = search needs
+same-length-3 c = omega arith
 
 returns-3 : tie.Need-returns-3
 returns-3 c =
@@ -107,7 +106,7 @@ returns-3 c =
     down (now (st .args .slots)) _ _ _ (st .pre .0 .0) (w .0) (w .1) _ _ _ _ _ _ (st .args .len) (c .before .before .before .before .before .before .copy4 .ensures) (c .before .before .copy5 .ensures) (over (omega arith)) (on (omega arith)) (omega arith) (st .pre .1 .1)
 
 same-length-4 : tie.Need-same-length-4
-same-length-4 c = search needs
+same-length-4 c = omega arith
 
 returns-4 : tie.Need-returns-4
 returns-4 c =

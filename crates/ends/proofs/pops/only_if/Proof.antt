@@ -1,8 +1,6 @@
 -- `ends::only_if` meets its contract. Assumes nothing.
-use mathlib.Core.Path.{sym, _∙_}
 use borrow.Author.Needs.{needs}
-use Rattle.ends.specs.Conditional.{onlyIf}
-use Rattle.rules.specs.Tests.{whether}
+use Rattle.ends.proofs.pops.Conditional.{kept, dropped, nothing, passed-on}
 use Rattle.ends.proofs.pops.only_if.Statement.{statement}
 use Rattle.ends.proofs.pops.only_if.Tie as tie
 
@@ -13,8 +11,7 @@ meets-requires : tie.Need-meets-requires
 meets-requires c κs = search needs
 
 returns : tie.Need-returns
-unfolding onlyIf whether
-returns c = rw (c .before .before .before .popped .given .1, sym (c .before .meets .ensures) ∙ c .if1 .taken)
+returns c = kept _ _ _ _ _ _ _ (c .before .before .before .popped .given .1) (c .before .meets .ensures) (c .if1 .taken)
 
 enum-told : tie.Need-enum-told
 enum-told c = search needs
@@ -23,16 +20,13 @@ enum-told-2 : tie.Need-enum-told-2
 enum-told-2 c = search needs
 
 returns-2 : tie.Need-returns-2
-unfolding onlyIf whether
-returns-2 c = rw (c .before .before .before .popped .given .1, sym (c .before .meets .ensures) ∙ c .if1 .left)
+returns-2 c = dropped _ _ _ _ _ _ _ (c .before .before .before .popped .given .1) (c .before .meets .ensures) (c .if1 .left)
 
 returns-3 : tie.Need-returns-3
-unfolding onlyIf
-returns-3 c = rw (c .enum-told .given .1)
+returns-3 c = nothing _ _ _ _ _ (c .enum-told .given .1)
 
 returns-4 : tie.Need-returns-4
-unfolding onlyIf
-returns-4 c = rw (c .enum-told2 .given .1)
+returns-4 c = passed-on _ _ _ _ _ _ (c .enum-told2 .given .1)
 
 pub only-if-spec : {M : Type 1} → statement M
 only-if-spec =

@@ -1,6 +1,7 @@
 -- `ends::fill` meets its contract. Assumes nothing.
-use mathlib.Core.Path.{refl}
 use borrow.Author.Needs.{needs}
+use denote.Ref.{now}
+use lib.ListN.{getD, set}
 use Rattle.ends.proofs.swaps.fill.Statement.{statement}
 use Rattle.ends.proofs.swaps.fill.Tie as tie
 
@@ -32,7 +33,11 @@ same-length : tie.Need-same-length
 same-length c = search needs
 
 returns : tie.Need-returns
-returns c = rw (c .before .before .before .as-index .ensures, c .before .before .as-index2 .ensures) (refl, refl)
+returns c =
+    let b = now (c .before .before .before .before .before .args .slots) in
+    let a = c .before .before .before .as-index .ensures in
+    let f = c .before .before .as-index2 .ensures in
+    (λ t. getD b (a t) 0, λ t. set b (a t) (getD b (f t) 0))
 
 pub fill-spec : {M : Type 1} → statement M
 fill-spec =

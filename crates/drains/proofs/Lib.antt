@@ -1,0 +1,6 @@
+-- What each return of the four calls tells.
+pub mod Checks
+pub mod Ranges
+pub mod Draws
+pub mod Rooms
+pub mod Closes

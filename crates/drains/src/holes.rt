@@ -1,0 +1,77 @@
+// How the hole between a queue's first and last elements is closed: the shorter side moves.
+use places::WrappedIndex;
+ghost use mathlib.Core.Path.{_≡_};
+ghost use Prim.Native.Nat.{_+_, _-_, _≤_, _<_};
+ghost use lib.Dec.{eqb};
+ghost use lib.ListN.{length};
+ghost use Rattle.rules.specs.Places.{place};
+ghost use Rattle.rules.specs.Slots.{copied};
+ghost use Rattle.rules.specs.Tests.{whether};
+ghost use Rattle.drains.specs.Holes.{HoleClosed};
+
+// Where a queue begins once its hole is closed, and how many elements moved for it.
+pub struct Joined {
+    pub head: WrappedIndex,
+    pub moved: usize,
+}
+
+// Moves the last `tail` elements of a queue from position `from` to position `to`.
+pub fn move_tail(slots: &mut [u32], head: WrappedIndex, from: usize, to: usize, tail: usize)
+    requires { ⌜ (head .0 < length (now slots)) × (from + tail ≤ length (now slots)) × (to + tail ≤ length (now slots)) ⌝ }
+    ensures { λ _. ⌜ now (slots .exit) ≡ copied (now (slots .entry)) (place (length (now (slots .entry))) (head .0) from) (place (length (now (slots .entry))) (head .0) to) tail ⌝ }
+{
+    let cap = slots.len();
+    let src = places::wrap_add(cap, head, from);
+    let dst = places::wrap_add(cap, head, to);
+    copies::wrap_copy(slots, src, dst, tail);
+}
+
+// Closes a hole. In front of it stand `start` elements, and room for `new` ones, which the caller lays once the hole is closed; behind it stand
+// `tail`. Since the new ones go straight to their place, only `start` elements move where the earlier side does.
+//
+// H = head, h = the first elements, n = room for the new ones, d = the hole, t = the tail
+pub fn close_hole(
+    slots: &mut [u32],
+    head: WrappedIndex,
+    start: usize,
+    new: usize,
+    hole: usize,
+    tail: usize,
+) -> Joined
+    requires { ⌜ (head .0 ≤ length (now slots) - 1) × (start + new + hole + tail ≤ length (now slots)) ⌝ }
+    ensures { λ r. ⌜ HoleClosed (now (slots .entry)) (now (slots .exit)) (head .0) start new hole tail (r .head .0) (r .moved) ⌝ }
+{
+    if hole == 0 {
+        return Joined { head, moved: 0 };
+    }
+    if start + new < tail {
+        // The earlier side is the shorter: it moves, and the head with it.
+        //       H
+        // [ . . h h n d d d t t t t . . ]
+        //             H
+        // [ . . . . . h h n t t t t . . ]
+        let next = places::wrap_add(slots.len(), head, hole);
+        copies::wrap_copy(slots, head, next, start);
+        return Joined {
+            head: next,
+            moved: start,
+        };
+    }
+    // The tail is the shorter, or both are as long: it moves, and the head stays.
+    //       H
+    // [ . . h h h n d d d t t . . . ]
+    //       H
+    // [ . . h h h n t t . . . . . . ]
+    move_tail(slots, head, start + new + hole, start + new, tail);
+    Joined { head, moved: tail }
+}
+
+// The head of a queue of `len` elements: the first slot if nothing remains.
+pub fn head_over(head: WrappedIndex, len: usize) -> WrappedIndex
+    ensures { λ r. ⌜ r .0 ≡ whether (eqb len 0) 0 (head .0) ⌝ }
+{
+    if len == 0 {
+        return WrappedIndex::zero();
+    }
+    head
+}

@@ -1,0 +1,103 @@
+-- `splices::splice` meets its contract. Assumes nothing.
+use mathlib.Core.Path.{_≡_}
+use Prim.Native.Nat.{_-_}
+use native.Mathlib.Omega.{arith}
+use borrow.Author.Needs.{needs}
+use denote.Ref.{now}
+use lib.ListN.{length}
+use Rattle.drains.proofs.Ranges.{range-turned, range-past}
+use Rattle.queue.proofs.Checks.{passed-zero, Fine, fine, told-first}
+use Rattle.queue.specs.Answers.{recOf}
+use Rattle.rules.specs.Refusals.{onQueue}
+use Rattle.splices.proofs.Made.{spliced-good}
+use Rattle.splices.proofs.Spliced.{splice-range, splice-full, spliced}
+use Rattle.splices.proofs.splice.Statement.{statement}
+use Rattle.splices.proofs.splice.Tie as tie
+
+-- past the first tests nothing is refused
+past : (c : tie.After-enum-told) → onQueue (length (now (c .before .before .before .before .before .args .slots))) (recOf (c .before .before .before .before .before .args .q)) 0 ≡ 0
+past c = passed-zero _ _ (c .before .before .check .ensures) (c .enum-told .given .1)
+
+ok : (c : tie.After-enum-told) → Fine (now (c .before .before .before .before .before .args .slots)) (recOf (c .before .before .before .before .before .args .q))
+ok c = fine _ _ (past c)
+
+check-requires : tie.Need-check-requires
+check-requires c κs = search needs
+
+enum-known-refusal : tie.Need-enum-known-refusal
+enum-known-refusal c = search needs
+
+returns : tie.Need-returns
+returns c = told-first _ _ _ (c .before .before .before .check .ensures) _ _ (c .before .refusal .given .1)
+
+enum-told : tie.Need-enum-told
+enum-told c = search needs
+
+returns-2 : tie.Need-returns-2
+returns-2 c = splice-range _ _ _ _ _ (past (c .before)) (range-turned _ _ _ _ (omega arith))
+
+returns-3 : tie.Need-returns-3
+returns-3 c = splice-range _ _ _ _ _ (past (c .before .before)) (range-past _ _ _ _ (omega arith) (omega arith))
+
+sub-if3 : tie.Need-sub-if3
+sub-if3 c = let g = ok (c .before .before) .good in omega arith
+
+sub-if3-2 : tie.Need-sub-if3-2
+sub-if3-2 c = let g = ok (c .before .before) .good in omega arith
+
+returns-4 : tie.Need-returns-4
+returns-4 c = let g = ok (c .before .before .before) .good in splice-full _ _ _ _ _ (past (c .before .before .before)) (omega arith) (omega arith) (omega arith)
+
+make-room-requires : tie.Need-make-room-requires
+make-room-requires c κs = let g = ok (c .before .before .before .before .before) .good in omega arith
+
+fill-requires : tie.Need-fill-requires
+fill-requires c κs =
+    let a = c .before .before .before .before .before .before .before .before .before .before .before .before .before .before .before .args in
+    let g = ok (c .before .before .before .before .before .before .before .before .before .before) .good in
+    let e = c .before .before .before .before .make-room .ensures in
+    let k = e .room .long in
+    let p = spliced-good (length (now (a .slots))) (a .q .head .0) (a .start) (a .end - a .start) (length (now (a .values))) (a .q .len - a .end) (g .placed) (omega arith) in
+    omega (arith, e .head)
+
+add-left : tie.Need-add-left
+add-left c = search needs
+
+add-left-2 : tie.Need-add-left-2
+add-left-2 c = search needs
+
+head-over-requires : tie.Need-head-over-requires
+head-over-requires c κs = search needs
+
+stepped-requires : tie.Need-stepped-requires
+stepped-requires c κs = search needs
+
+same-length : tie.Need-same-length
+same-length c = search needs
+
+returns-5 : tie.Need-returns-5
+returns-5 c =
+    let g = ok (c .before .before .before .before .before .before .before .before .before .before .before .before .before .before .before) .good in
+    spliced _ _ _ _ _ (past (c .before .before .before .before .before .before .before .before .before .before .before .before .before .before .before)) (omega arith) (omega arith) _ _ _ _ _ _ (omega arith) (c .before .before .before .before .before .before .before .before .before .make-room .ensures) (c .before .before .before .before .fill .ensures) (c .before .head-over .ensures) (c .stepped .ensures)
+
+pub splice-spec : {M : Type 1} → statement M
+splice-spec =
+    tie.close
+    (tie.spec
+    check-requires
+    enum-known-refusal
+    returns
+    enum-told
+    returns-2
+    returns-3
+    sub-if3
+    sub-if3-2
+    returns-4
+    make-room-requires
+    fill-requires
+    add-left
+    add-left-2
+    head-over-requires
+    stepped-requires
+    same-length
+    returns-5)

@@ -1,0 +1,76 @@
+// The face: every public item that a user of the queue names. Each call takes the lent slots, the record by value and its operands, and refuses what can't be met.
+
+// The record, its place, the answers and the refusals.
+pub use places::WrappedIndex;
+pub use queue::Change;
+pub use queue::Deque;
+pub use queue::Found;
+pub use queue::Handed;
+pub use queue::Made;
+pub use queue::Refusal;
+pub use queue::fresh;
+
+// A test of an element, for the conditional pops, `retain` and `partition_point`.
+pub use conditions::Test;
+
+// The ends.
+pub use ends::back;
+pub use ends::clear;
+pub use ends::front;
+pub use ends::get;
+pub use ends::pop_back;
+pub use ends::pop_back_if;
+pub use ends::pop_front;
+pub use ends::pop_front_if;
+pub use ends::push_back;
+pub use ends::push_front;
+pub use ends::swap;
+pub use ends::swap_remove_back;
+pub use ends::swap_remove_front;
+pub use ends::truncate;
+pub use ends::truncate_front;
+
+// The middle.
+pub use middle::insert;
+pub use middle::remove;
+pub use middle::retain;
+
+// Lent slices and other queues.
+pub use joins::Joined;
+pub use joins::Split;
+pub use joins::append;
+pub use joins::extend;
+pub use joins::extend_front;
+pub use joins::prepend;
+pub use joins::resize;
+pub use joins::split_off;
+
+// Drains and splices.
+pub use drains::Closed;
+pub use drains::Drain;
+pub use drains::Drawn;
+pub use drains::Opened;
+pub use drains::drain;
+pub use drains::drain_close;
+pub use drains::drain_next;
+pub use drains::drain_next_back;
+pub use splices::splice;
+
+// The two runs of a range.
+pub use runs::Ranges;
+pub use runs::Span;
+pub use runs::back_run;
+pub use runs::front_run;
+pub use runs::slice_ranges;
+
+// Walks, by value and borrowing.
+pub use walks::Begun;
+pub use walks::Iterator;
+pub use walks::IteratorStep;
+pub use walks::Stepped;
+pub use walks::Walk;
+pub use walks::begin_walk;
+pub use walks::iter;
+pub use walks::walk_after;
+pub use walks::walk_next;
+pub use walks::walk_next_back;
