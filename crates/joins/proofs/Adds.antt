@@ -1,19 +1,19 @@
 -- What the calls that add elements do: one law for each return. Assumes nothing.
 use mathlib.Core.List.{List, map, [], append-nil, reverse}
 use mathlib.Core.Logic.{_≢_}
+use mathlib.Core.Option.{none}
 use mathlib.Core.Path.{_≡_, refl, _∙_, sym, ap}
 use Prim.Native.Nat.{ℕ, _+_, _<_, _≤_, _-_}
 use native.Mathlib.Omega.{arith}
 use lib.ListN.{length, length-reverse, replicate, take, length-replicate}
 use lib.Seq.{take-all}
-use mathlib.Core.Option.{none}
 use Rattle.joins.proofs.Asks.{More}
 use Rattle.joins.proofs.Behind.{lay-behind, lay-before, lay-first}
 use Rattle.queue.proofs.Checks.{failed-number, fine}
 use Rattle.queue.proofs.Numbers.{some-number}
 use Rattle.queue.specs.Answers.{numberIn, numberOf}
 use Rattle.rules.proofs.Made.{map-made}
-use Rattle.rules.proofs.Places.{wrapped-high}
+use Rattle.rules.proofs.Places.{wrapped-high, stepBack-good}
 use Rattle.rules.proofs.Refusals.{some-room, no-room}
 use Rattle.rules.proofs.Slots.{length-listOf}
 use Rattle.rules.proofs.Tests.{unless-stop}
@@ -64,26 +64,36 @@ module _ (b : List ℕ) (r : Rec) (vs : List ℕ) (m : More b r (length vs)) whe
   unfolding prepend
   prepended-none e = accepts-same b r (prepend vs) (m .first) (some-room _ _ (m .fits)) (wrapped-high _ _ (omega arith) ∙ omega arith) (omega arith) refl refl (rw (empty e))
 
-  module _ (some : length vs ≢ 0) (p : ℕ) (r′ : Rec) (b′ : List ℕ) (laid : b′ ≡ lay b p vs) where
-    -- it is laid behind the last element
-    pub extended : p ≡ place (length b) (r .head) (r .len) → r′ ≡ stepped r (r .head) (r .len + length vs)
-        → (record { refused = 0; moved = 0; held = shut r′; handed = none }, b′) ≡ told (doRule b r (extendWith vs))
-    unfolding extendWith held
-    extended at-p made =
-        let g = fine b r (m .first) .good in
-        let fits = m .fits in
-        accepts b r (extendWith vs) (m .first) (some-room _ _ fits) 0 (r .head) (r .len + length vs) r′ none b′ made refl refl refl refl
-        (laid ∙ ap (λ (i : ℕ). lay b i vs) at-p ∙ rw map-made (lay-behind b (r .head) (r .len) vs (omega arith) fits))
+  -- it is laid behind the last element
+  pub extended : length vs ≢ 0 → (p : ℕ) (r′ : Rec) (b′ : List ℕ) → b′ ≡ lay b p vs → p ≡ place (length b) (r .head) (r .len) → r′ ≡ stepped r (r .head) (r .len + length vs)
+      → (record { refused = 0; moved = 0; held = shut r′; handed = none }, b′) ≡ told (doRule b r (extendWith vs))
+  unfolding extendWith held
+  extended some p r′ b′ laid at-p made =
+      let g = m .ok .good in
+      let fits = m .fits in
+      accepts b r (extendWith vs) (m .first) (some-room _ _ fits) 0 (r .head) (r .len + length vs) r′ none b′ made refl refl refl refl
+      (laid ∙ ap (λ (i : ℕ). lay b i vs) at-p ∙ rw map-made (lay-behind b (r .head) (r .len) vs (omega arith) fits))
 
-    -- head steps back by its length, and it is laid from there
-    pub prepended : p ≡ stepBack (length b) (r .head) (length vs) → r′ ≡ stepped r p (r .len + length vs)
-        → (record { refused = 0; moved = 0; held = shut r′; handed = none }, b′) ≡ told (doRule b r (prepend vs))
-    unfolding prepend held
-    prepended at-p made =
-        let g = fine b r (m .first) .good in
+  -- head steps back by its length
+  module _ (some : length vs ≢ 0) (r′ : Rec) (made : r′ ≡ stepped r (stepBack (length b) (r .head) (length vs)) (r .len + length vs)) where
+    new-head : r′ .head ≡ stepBack (length b) (r .head) (length vs)
+    unfolding stepped
+    new-head = ap (λ (q : Rec). q .head) made
+
+    pub front-fits : (r′ .head < length b) × (length vs ≤ length b)
+    front-fits =
+        let g = m .ok .good in
         let fits = m .fits in
-        accepts b r (prepend vs) (m .first) (some-room _ _ fits) 0 p (r .len + length vs) r′ none b′ made at-p refl refl refl
-        (laid ∙ rw (map-made, at-p) (lay-before b (r .head) (r .len) vs (omega arith) fits))
+        (omega (arith, new-head, stepBack-good (length b) (r .head) (g .placed) (length vs)), omega arith)
+
+    -- and it is laid from there
+    pub prepended : (b′ : List ℕ) → b′ ≡ lay b (r′ .head) vs → (record { refused = 0; moved = 0; held = shut r′; handed = none }, b′) ≡ told (doRule b r (prepend vs))
+    unfolding prepend held
+    prepended b′ laid =
+        let g = m .ok .good in
+        let fits = m .fits in
+        accepts b r (prepend vs) (m .first) (some-room _ _ fits) 0 (stepBack (length b) (r .head) (length vs)) (r .len + length vs) r′ none b′ made refl refl refl refl
+        (laid ∙ rw (map-made, new-head) (lay-before b (r .head) (r .len) vs (omega arith) fits))
 
 -- reversed
 module _ (b : List ℕ) (r : Rec) (vs : List ℕ) (m : More b r (length vs)) where
@@ -94,11 +104,10 @@ module _ (b : List ℕ) (r : Rec) (vs : List ℕ) (m : More b r (length vs)) whe
   unfolding extendFront
   fronted-none e = prepended-none b r (reverse vs) turned (length-reverse vs ∙ e)
 
-  pub fronted : length vs ≢ 0 → (p : ℕ) (r′ : Rec) (b′ : List ℕ) → b′ ≡ lay b p (reverse vs) → p ≡ stepBack (length b) (r .head) (length vs) → r′ ≡ stepped r p (r .len + length vs)
+  pub fronted : length vs ≢ 0 → (r′ : Rec) → r′ ≡ stepped r (stepBack (length b) (r .head) (length vs)) (r .len + length vs) → (b′ : List ℕ) → b′ ≡ lay b (r′ .head) (reverse vs)
       → (record { refused = 0; moved = 0; held = shut r′; handed = none }, b′) ≡ told (doRule b r (extendFront vs))
   unfolding extendFront
-  fronted some p r′ b′ laid at-p made =
-      prepended b r (reverse vs) turned (λ e. some (sym (length-reverse vs) ∙ e)) p r′ b′ laid (rw length-reverse at-p) (rw length-reverse made)
+  fronted some r′ made b′ laid = prepended b r (reverse vs) turned (λ e. some (sym (length-reverse vs) ∙ e)) r′ (rw length-reverse made) b′ laid
 
 -- ---- `resize`
 

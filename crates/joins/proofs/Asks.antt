@@ -5,7 +5,7 @@ use Prim.Native.Nat.{ℕ, _<_, _≤_, _+_, _-_}
 use borrow.Author.Tests.{lt-leb, le-leb}
 use lib.Dec.{leb, leb→le}
 use lib.ListN.{length}
-use Rattle.queue.proofs.Checks.{failed-number}
+use Rattle.queue.proofs.Checks.{failed-number, Fine, fine}
 use Rattle.queue.proofs.Numbers.{some-number}
 use Rattle.queue.specs.Answers.{numberIn, numberOf}
 use Rattle.rules.proofs.Refusals.{queue-stop, queue-go, queue-ok, no-room, some-room, slots-asks, room-ok, slots-ok}
@@ -61,14 +61,17 @@ position-passes p n m k le e = rw (le-leb p n le) e
 -- of a call that adds n elements
 pub record More (b : List ℕ) (r : Rec) (n : ℕ) : Type 0 where
   pub first : onQueue (length b) r 0 ≡ 0
+  pub ok : Fine b r
   pub fits : r .len + n ≤ length b
 
 pub more : (b : List ℕ) (r : Rec) (n : ℕ) → onQueue (length b) r (room (length b) (r .len + n)) ≡ 0 → More b r n
-more b r n e = record { first = passed-first (length b) r _ e; fits = room-ok _ _ (queue-ok (length b) r _ e .1) }
+more b r n e =
+    let first = passed-first (length b) r _ e in
+    record { first = first; ok = fine b r first; fits = room-ok _ _ (queue-ok (length b) r _ e .1) }
 
 -- of `append`
 pub record Appends (b : List ℕ) (r : Rec) (b′ : List ℕ) (r′ : Rec) : Type 0 where
-  pub ours : onQueue (length b) r 0 ≡ 0
+  pub ok : Fine b r
   pub theirs : onQueue (length b′) r′ 0 ≡ 0
   pub fits : r .len + r′ .len ≤ length b
 
@@ -76,7 +79,7 @@ pub appends : (b : List ℕ) (r : Rec) (b′ : List ℕ) (r′ : Rec) → onAppe
 unfolding onAppending
 appends b r b′ r′ e =
     let k = queue-ok (length b) r _ e .1 in
-    record { ours = passed-first (length b) r _ e; theirs = passed-first (length b′) r′ _ k; fits = room-ok _ _ (queue-ok (length b′) r′ _ k .1) }
+    record { ok = fine b r (passed-first (length b) r _ e); theirs = passed-first (length b′) r′ _ k; fits = room-ok _ _ (queue-ok (length b′) r′ _ k .1) }
 
 -- of `split_off`
 pub record Splits (b : List ℕ) (r : Rec) (b′ : List ℕ) (p : ℕ) : Type 0 where

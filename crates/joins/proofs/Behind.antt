@@ -33,3 +33,7 @@ module _ (b : List ℕ) (head n : ℕ) (l : List ℕ) (in-ring : head < length b
       ∙ ap (λ (h : ℕ). write cap (lay b g l) h (listOf b head n)) on
       ∙ ap (write cap (lay b g l) head) (sym same)
       ∙ write-read cap (lay b g l) head n)
+
+-- a step within the ring leads into it
+pub place-in : (p cap h i : ℕ) → p ≡ place cap h i → h < cap → i ≤ cap → p < cap
+place-in p cap h i at-p in-ring le = omega (arith, place-low cap h in-ring i le)

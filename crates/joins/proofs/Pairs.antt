@@ -1,14 +1,14 @@
 -- What the calls on two queues do: one law for each return. b, r: our slots and record; b′, r′: the other's. Assumes nothing.
 use mathlib.Core.List.{List, _++_, append-nil}
 use mathlib.Core.Logic.{_≢_}
+use mathlib.Core.Option.{none, some}
 use mathlib.Core.Path.{_≡_, sym, _∙_, ap, refl}
 use Prim.Native.Nat.{ℕ, _+_, _-_, _≤_}
 use native.Mathlib.Omega.{arith}
 use lib.ListN.{length, drop, drop-of-length-le}
-use mathlib.Core.Option.{none, some}
 use Rattle.joins.proofs.Asks.{appends}
 use Rattle.joins.proofs.Behind.{lay-behind}
-use Rattle.queue.proofs.Checks.{failed-number, fine}
+use Rattle.queue.proofs.Checks.{failed-number}
 use Rattle.queue.proofs.Numbers.{some-number}
 use Rattle.queue.specs.Answers.{numberIn, numberOf}
 use Rattle.rules.proofs.Held.{stepped-same, length-held}
@@ -43,7 +43,7 @@ module _ (b : List ℕ) (r : Rec) (b′ : List ℕ) (r′ : Rec) where
     pub append-none : r′ .len ≡ 0 → (record { refused = 0; moved = 0; rec = r; other = some o }, b, b′) ≡ toldPairing (doAppend b r b′ r′)
     unfolding held
     append-none e =
-        let g = fine b r (appends b r b′ r′ none-asked .ours) .good in
+        let g = appends b r b′ r′ none-asked .ok .good in
         let same : r .len ≡ r .len + r′ .len = omega arith in
         appends-as 0 r b (sym e) (sym (stepped-same (length b) r g) ∙ ap (stepped r (r .head)) same)
         (sym (rw (e, listOf-none, append-nil) (lay-own b (r .head) (r .len))))
@@ -54,7 +54,7 @@ module _ (b : List ℕ) (r : Rec) (b′ : List ℕ) (r′ : Rec) where
     unfolding held
     append-done p q c some-moved at-p laid made =
         let k = appends b r b′ r′ none-asked in
-        let g = fine b r (k .ours) .good in
+        let g = k .ok .good in
         let fits = k .fits in
         appends-as (r′ .len) q c refl made
         (laid ∙ rw at-p (lay-behind b (r .head) (r .len) (listOf b′ (r′ .head) (r′ .len)) (omega arith) (rw length-listOf fits)))

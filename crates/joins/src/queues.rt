@@ -38,10 +38,11 @@ fn check_split(cap: usize, q: Deque, target_cap: usize, at: usize) -> Checked
     if let Checked::Refused(refusal) = queue::check(cap, q) {
         return Checked::Refused(refusal);
     }
-    if target_cap > rules::most_slots() {
+    let most = rules::most_slots();
+    let len = q.len;
+    if target_cap > most {
         return Checked::Refused(Refusal::Slots);
     }
-    let len = q.len;
     if at > len {
         return Checked::Refused(Refusal::Position);
     }
@@ -80,8 +81,8 @@ pub fn append(slots: &mut [u32], q: Deque, other_slots: &[u32], other: Deque) ->
         };
     }
     let emptied = queue::stepped(other, WrappedIndex::zero(), 0);
-    let moved = other.len;
-    if moved == 0 {
+    let theirs = other.len;
+    if theirs == 0 {
         return Joined::Done {
             queue: q,
             other: emptied,
@@ -98,9 +99,9 @@ pub fn append(slots: &mut [u32], q: Deque, other_slots: &[u32], other: Deque) ->
         0,
     );
     Joined::Done {
-        queue: queue::stepped(q, head, len + moved),
+        queue: queue::stepped(q, head, len + theirs),
         other: emptied,
-        moved,
+        moved: theirs,
     }
 }
 
@@ -115,10 +116,11 @@ pub fn split_off(slots: &[u32], q: Deque, at: usize, target: &mut [u32]) -> Spli
             moved: 0,
         };
     }
+    let len = q.len;
+    let later = len - at;
     let kept = queue::stepped(q, q.head, at);
-    let moved = q.len - at;
-    let made = queue::new_record(moved);
-    if moved == 0 {
+    let made = queue::new_record(later);
+    if later == 0 {
         return Split::Done {
             queue: kept,
             target: made,
@@ -129,6 +131,6 @@ pub fn split_off(slots: &[u32], q: Deque, at: usize, target: &mut [u32]) -> Spli
     Split::Done {
         queue: kept,
         target: made,
-        moved,
+        moved: later,
     }
 }

@@ -4,13 +4,16 @@ use queue::Checked;
 use queue::Deque;
 use queue::Refusal;
 ghost use mathlib.Core.Path.{_≡_};
-ghost use Prim.Native.Nat.{_+_};
+ghost use Prim.Native.Nat.{_+_, _≤_, _<_};
 ghost use Rattle.rules.specs.Joins.{extendWith, prepend, extendFront, resize};
 ghost use Rattle.rules.specs.Outcome.{told, doRule};
+ghost use Rattle.rules.specs.Places.{stepBack};
+ghost use Rattle.rules.specs.Records.{stepped};
 ghost use Rattle.rules.specs.Refusals.{onQueue, room};
 ghost use Rattle.queue.specs.Answers.{recOf, numberIn, ofChange};
 
-// The tests of a call that adds `n` elements, in their order.
+// The tests of a call that adds `n` elements, in their order. A lent slice may be of any length, so its own is held to a difference: no sum can pass
+// the largest number.
 fn check_more(cap: usize, q: Deque, n: usize) -> Checked
     ensures { λ r. ⌜ numberIn r ≡ onQueue cap (recOf q) (room cap (q .len + n)) ⌝ }
 {
@@ -21,6 +24,14 @@ fn check_more(cap: usize, q: Deque, n: usize) -> Checked
         return Checked::Refused(Refusal::Room);
     }
     Checked::Good
+}
+
+// The record of a queue that gets `n` elements in front.
+fn stepped_back(cap: usize, q: Deque, n: usize) -> Deque
+    requires { ⌜ (n ≤ cap) × (q .head .0 + cap < 18446744073709551616) × (q .len + n < 18446744073709551616) ⌝ }
+    ensures { λ r. ⌜ recOf r ≡ stepped (recOf q) (stepBack cap (q .head .0) n) (q .len + n) ⌝ }
+{
+    queue::stepped(q, places::wrap_sub(cap, q.head, n), q.len + n)
 }
 
 // Appends the values.
@@ -36,14 +47,16 @@ pub fn extend(slots: &mut [u32], q: Deque, values: &[u32]) -> Change
             moved: 0,
         };
     }
+    // with nothing to copy there may be no slot either
     if n == 0 {
         return Change::Done { queue: q, moved: 0 };
     }
-    let len = q.len;
     let head = q.head;
+    let len = q.len;
+    let total = len + n;
     copies::copy_slice(slots, places::wrap_add(cap, head, len), values);
     Change::Done {
-        queue: queue::stepped(q, head, len + n),
+        queue: queue::stepped(q, head, total),
         moved: 0,
     }
 }
@@ -64,12 +77,9 @@ pub fn prepend(slots: &mut [u32], q: Deque, values: &[u32]) -> Change
     if n == 0 {
         return Change::Done { queue: q, moved: 0 };
     }
-    let head = places::wrap_sub(cap, q.head, n);
-    copies::copy_slice(slots, head, values);
-    Change::Done {
-        queue: queue::stepped(q, head, q.len + n),
-        moved: 0,
-    }
+    let queue = stepped_back(cap, q, n);
+    copies::copy_slice(slots, queue.head, values);
+    Change::Done { queue, moved: 0 }
 }
 
 // Puts the values in front, the last of them first.
@@ -88,12 +98,9 @@ pub fn extend_front(slots: &mut [u32], q: Deque, values: &[u32]) -> Change
     if n == 0 {
         return Change::Done { queue: q, moved: 0 };
     }
-    let head = places::wrap_sub(cap, q.head, n);
-    copies::copy_slice_reversed(slots, head, values);
-    Change::Done {
-        queue: queue::stepped(q, head, q.len + n),
-        moved: 0,
-    }
+    let queue = stepped_back(cap, q, n);
+    copies::copy_slice_reversed(slots, queue.head, values);
+    Change::Done { queue, moved: 0 }
 }
 
 // Truncates to the first `n` elements, or appends copies of `v` up to `n`.
@@ -117,15 +124,10 @@ pub fn resize(slots: &mut [u32], q: Deque, n: usize, v: u32) -> Change
     }
     let len = q.len;
     let head = q.head;
+    let queue = queue::stepped(q, head, n);
     if n <= len {
-        return Change::Done {
-            queue: queue::stepped(q, head, n),
-            moved: 0,
-        };
+        return Change::Done { queue, moved: 0 };
     }
     copies::fill_slots(slots, places::wrap_add(cap, head, len), n - len, v);
-    Change::Done {
-        queue: queue::stepped(q, head, n),
-        moved: 0,
-    }
+    Change::Done { queue, moved: 0 }
 }

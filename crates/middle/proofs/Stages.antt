@@ -1,14 +1,16 @@
 -- The two stages of `retain`, turn by turn: what each turn leaves to be done. Assumes nothing.
 use mathlib.Core.Bool.{Bool, true, false}
 use mathlib.Core.List.{List, _∷_, []}
+use mathlib.Core.Logic.{⊎-elim}
 use mathlib.Core.Path.{_≡_, ap, sym, _∙_, refl}
 use Prim.Native.Nat.{ℕ, _<_, _-_, suc, _≤_, _+_}
 use native.Mathlib.Nat.{zero-add}
 use native.Mathlib.Omega.{arith}
 use lib.ListN.{getD, length, set, length-set}
 use Rattle.middle.specs.Leading.{leading}
-use Rattle.rules.proofs.Places.{place-good, place-low, place-place}
+use Rattle.rules.proofs.Places.{place-zero, place-good, place-place, place-low}
 use Rattle.rules.proofs.Ring.{read-set}
+use Rattle.rules.proofs.Tests.{lt-or-ge}
 use Rattle.rules.specs.Conditions.{those}
 use Rattle.rules.specs.Places.{place}
 use Rattle.rules.specs.Slots.{read, listOf, write, lay}
@@ -40,40 +42,45 @@ module _ (f : ℕ → Bool) (x : ℕ) (l : List ℕ) where
 answered : (f : ℕ → Bool) (b : List ℕ) (i p : ℕ) (t y : Bool) → i ≡ p → t ≡ f (getD b i 0) → t ≡ y → f (getD b p 0) ≡ y
 answered f b i p t y at-i tested e = ap (λ (k : ℕ). f (getD b k 0)) (sym at-i) ∙ sym tested ∙ e
 
--- ---- stage 1: `kept` elements of n from h on passed, and the next one stands in slot p
+-- ---- stage 1: the first `kept` elements of n from h on passed
 
-pub record Passing (f : ℕ → Bool) (b : List ℕ) (h n p kept : ℕ) : Type 0 where
-  pub placed : p ≤ length b - 1
+pub record Passing (f : ℕ → Bool) (b : List ℕ) (h n kept : ℕ) : Type 0 where
   pub upto : kept ≤ n
-  pub rest : leading f (listOf b h n) ≡ kept + leading f (listOf b p (n - kept))
+  pub rest : leading f (listOf b h n) ≡ kept + leading f (listOf b (place (length b) h kept) (n - kept))
 
-module _ (f : ℕ → Bool) (b : List ℕ) (h n : ℕ) (fits : n ≤ length b) where
-  pub passing-none : h ≤ length b - 1 → Passing f b h n h 0
-  passing-none good = record { placed = good; upto = omega arith; rest = ap (λ (k : ℕ). leading f (listOf b h k)) (omega arith) ∙ sym (zero-add _) }
+module _ (f : ℕ → Bool) (b : List ℕ) (h n : ℕ) (placed : h ≤ length b - 1) (fits : n ≤ length b) where
+  pub passing-none : Passing f b h n 0
+  passing-none =
+      let same : place (length b) h 0 ≡ h =
+      ⊎-elim (λ l. place-zero (length b) h l) (λ g. omega (arith, place-good (length b) h placed 0 (omega arith))) (lt-or-ge h (length b)) in
+      let whole : n - 0 ≡ n = omega arith in
+      record { upto = omega arith; rest = sym (zero-add _ ∙ (λ i. leading f (listOf b (same i) (whole i)))) }
 
-  module _ (p kept : ℕ) (s : Passing f b h n p kept) where
-    next : kept < n → listOf b p (n - kept) ≡ getD b p 0 ∷ listOf b (place (length b) p 1) (n - (kept + 1))
-    next lt = read-first (length b) b p (n - kept) (omega arith) ∙ ap (λ (k : ℕ). getD b p 0 ∷ listOf b (place (length b) p 1) k) (omega arith)
+  module _ (kept : ℕ) (s : Passing f b h n kept) where
+    -- the next one stands in slot p, and t is the test's answer on it
+    module _ (lt : kept < n) (p : ℕ) (t : Bool) (at-p : p ≡ place (length b) h kept) (tested : t ≡ f (getD b p 0)) where
+      next : listOf b (place (length b) h kept) (n - kept) ≡ getD b p 0 ∷ listOf b (place (length b) h (kept + 1)) (n - (kept + 1))
+      next =
+          let step : place (length b) p 1 ≡ place (length b) h (kept + 1) =
+          ap (λ (k : ℕ). place (length b) k 1) at-p ∙ place-place (length b) h (omega arith) kept 1 (omega arith) in
+          let less : n - kept - 1 ≡ n - (kept + 1) = omega arith in
+          ap (λ (k : ℕ). listOf b k (n - kept)) (sym at-p)
+          ∙ read-first (length b) b p (n - kept) (omega arith)
+          ∙ (λ i. getD b p 0 ∷ listOf b (step i) (less i))
 
-    -- the test's answer t on the element in slot i, which is that one
-    module _ (lt : kept < n) (i : ℕ) (t : Bool) (at-i : i ≡ p) (tested : t ≡ f (getD b i 0)) where
-      pub passing-on : (q : ℕ) → t ≡ true → q ≡ place (length b) p 1 → Passing f b h n q (kept + 1)
-      passing-on q hit at-q = rw at-q (record {
-        placed = place-good (length b) p (s .placed) 1 (omega arith);
-        upto = omega arith;
-        rest = omega (arith, s .rest, ap (leading f) (next lt) ∙ leading-kept f _ _ (answered f b i p t true at-i tested hit));
-      })
+      pub passing-on : t ≡ true → Passing f b h n (kept + 1)
+      passing-on hit = record { upto = omega arith; rest = omega (arith, s .rest, ap (leading f) next ∙ leading-kept f _ _ (sym tested ∙ hit)) }
 
       -- the first rejected one
       pub passing-out : t ≡ false → kept ≡ leading f (listOf b h n)
-      passing-out miss = omega (arith, s .rest, ap (leading f) (next lt) ∙ leading-out f _ _ (answered f b i p t false at-i tested miss))
+      passing-out miss = omega (arith, s .rest, ap (leading f) next ∙ leading-out f _ _ (sym tested ∙ miss))
 
     -- none was rejected
     pub passing-all : n ≤ kept → kept ≡ leading f (listOf b h n)
     unfolding read leading
     passing-all le =
         let none : n - kept ≡ 0 = omega arith in
-        omega (arith, s .rest, ap (λ (k : ℕ). leading f (listOf b p k)) none)
+        omega (arith, s .rest, ap (λ (k : ℕ). leading f (listOf b (place (length b) h kept) k)) none)
 
 -- ---- stage 2: `moved` elements were stored, the next one goes to slot p; `left` elements are still to be looked at, from slot q on. In the end the slots are
 -- `done`, and m elements were stored

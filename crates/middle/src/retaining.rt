@@ -23,12 +23,11 @@ fn before_first_rejected(slots: &[u32], head: WrappedIndex, len: usize, test: Te
     ensures { λ r. ⌜ r ≡ leading (meets (testOf test)) (listOf (now (slots .entry)) (head .0) len) ⌝ }
 {
     let cap = slots.len();
-    let mut from = head;
     let mut kept: usize = 0;
     while kept < len {
+        let from = places::wrap_add(cap, head, kept);
         let i = from.as_index();
         if conditions::meets(test, slots[i]) {
-            from = places::wrap_add(cap, from, 1);
             kept += 1;
         } else {
             return kept;

@@ -74,3 +74,15 @@ pub use walks::iter;
 pub use walks::walk_after;
 pub use walks::walk_next;
 pub use walks::walk_next_back;
+
+// Comparing.
+pub use compare::Ordering;
+pub use compare::Truth;
+pub use compare::cmp;
+pub use compare::contains;
+pub use compare::eq;
+
+// Saved images.
+pub use images::Written;
+pub use images::read_image;
+pub use images::write_image;

@@ -8,7 +8,7 @@ use Rattle.joins.proofs.Asks.{Appends, appends}
 use Rattle.joins.proofs.Pairs.{append-refused, append-none, append-done}
 use Rattle.queue.proofs.Checks.{passed-zero, Fine, fine}
 use Rattle.queue.specs.Answers.{recOf}
-use Rattle.rules.proofs.Places.{place-low}
+use Rattle.joins.proofs.Behind.{place-in}
 use Rattle.rules.specs.Pairs.{onAppending}
 use Rattle.joins.proofs.queues.append.Statement.{statement}
 use Rattle.joins.proofs.queues.append.Tie as tie
@@ -19,9 +19,6 @@ past c = passed-zero _ _ (c .before .before .check-append .ensures) (c .enum-tol
 
 ok : (c : tie.After-enum-told) → Appends (now (c .before .before .before .before .before .args .slots)) (recOf (c .before .before .before .before .before .args .q)) (now (c .before .before .before .before .before .args .other-slots)) (recOf (c .before .before .before .before .before .args .other))
 ok c = appends _ _ _ _ (past c)
-
-good : (c : tie.After-enum-told) → Fine (now (c .before .before .before .before .before .args .slots)) (recOf (c .before .before .before .before .before .args .q))
-good c = fine _ _ (ok c .ours)
 
 check-append-requires : tie.Need-check-append-requires
 check-append-requires c κs = search needs
@@ -45,13 +42,13 @@ returns-2 : tie.Need-returns-2
 returns-2 c = append-none _ _ _ _ (past (c .before .before .before)) _ (c .before .before .zero .ensures) _ (c .before .stepped .ensures) (c .if1 .taken)
 
 wrap-add-requires : tie.Need-wrap-add-requires
-wrap-add-requires c κs = let g = good (c .before .before .before .before .before) in omega arith
+wrap-add-requires c κs = let k = ok (c .before .before .before .before .before) in omega arith
 
 copy-runs-requires : tie.Need-copy-runs-requires
-copy-runs-requires c κs = let g = good (c .before .before .before .before .before .before) .good in let k = ok (c .before .before .before .before .before .before) .fits in (ok (c .before .before .before .before .before .before) .theirs, (omega arith, omega arith, omega (arith, c .wrap-add .ensures, place-low (length (now (c .before .before .before .before .before .before .before .before .before .before .before .args .slots))) (c .before .before .before .before .before .before .before .before .before .before .before .args .q .head .0) (omega arith) (c .before .before .before .before .before .before .before .before .before .before .before .args .q .len) (omega arith))))
+copy-runs-requires c κs = let k = ok (c .before .before .before .before .before .before) in (ok (c .before .before .before .before .before .before) .theirs, (omega arith, omega arith, place-in _ _ _ _ (c .wrap-add .ensures) (omega arith) (omega arith)))
 
 add-stepped : tie.Need-add-stepped
-add-stepped c = let g = good (c .before .before .before .before .before .before .before .before .before) in let k = ok (c .before .before .before .before .before .before .before .before .before) .fits in omega arith
+add-stepped c = let k = ok (c .before .before .before .before .before .before .before .before .before) in omega arith
 
 stepped-requires-2 : tie.Need-stepped-requires-2
 stepped-requires-2 c κs = search needs

@@ -1,7 +1,9 @@
 -- `joins::queues::split_off` meets its contract. Assumes nothing.
+use borrow.Author.Needs.{needs}
+use Rattle.joins.proofs.queues.split_off.Statement.{statement}
+use Rattle.joins.proofs.queues.split_off.Tie as tie
 use mathlib.Core.Path.{_≡_}
 use native.Mathlib.Omega.{arith}
-use borrow.Author.Needs.{needs}
 use denote.Ref.{now}
 use lib.ListN.{length}
 use Rattle.joins.proofs.Asks.{Splits, splits}
@@ -9,8 +11,6 @@ use Rattle.joins.proofs.Pairs.{split-refused, split-none, split-done}
 use Rattle.queue.proofs.Checks.{passed-zero}
 use Rattle.queue.specs.Answers.{recOf}
 use Rattle.rules.specs.Pairs.{onSplitting}
-use Rattle.joins.proofs.queues.split_off.Statement.{statement}
-use Rattle.joins.proofs.queues.split_off.Tie as tie
 
 -- past the tests nothing is refused
 past : (c : tie.After-enum-told) → onSplitting (length (now (c .before .before .before .before .before .args .slots))) (recOf (c .before .before .before .before .before .args .q)) (length (now (c .before .before .before .before .before .args .target))) (c .before .before .before .before .before .args .at) ≡ 0
@@ -31,29 +31,29 @@ returns c = split-refused _ _ _ _ _ _ (c .before .before .before .check-split .e
 enum-told : tie.Need-enum-told
 enum-told c = search needs
 
+sub-later : tie.Need-sub-later
+sub-later c = let k = ok c .within in omega arith
+
 stepped-requires : tie.Need-stepped-requires
 stepped-requires c κs = search needs
-
-sub-moved : tie.Need-sub-moved
-sub-moved c = let k = ok (c .before .before) .within in omega arith
 
 new-record-requires : tie.Need-new-record-requires
 new-record-requires c κs = search needs
 
 returns-2 : tie.Need-returns-2
-returns-2 c = split-none _ _ _ _ (past (c .before .before .before .before)) _ _ (c .before .before .before .stepped .ensures) (c .before .new-record .ensures) (c .if1 .taken)
+returns-2 c = split-none _ _ _ _ (past (c .before .before .before)) _ _ (c .before .before .stepped .ensures) (c .before .new-record .ensures) (c .if1 .taken)
 
 zero-requires : tie.Need-zero-requires
 zero-requires c κs = search needs
 
 copy-runs-requires : tie.Need-copy-runs-requires
-copy-runs-requires c κs = let k = ok (c .before .before .before .before .before .before) .within in let m = ok (c .before .before .before .before .before .before) .fits in (ok (c .before .before .before .before .before .before) .ours, (omega arith, omega arith, omega (arith, c .zero .ensures)))
+copy-runs-requires c κs = let k = ok (c .before .before .before .before .before) .within in let m = ok (c .before .before .before .before .before) .fits in (ok (c .before .before .before .before .before) .ours, (omega arith, omega arith, omega (arith, c .zero .ensures)))
 
 same-length : tie.Need-same-length
 same-length c = search needs
 
 returns-3 : tie.Need-returns-3
-returns-3 c = split-done _ _ _ _ (past (c .before .before .before .before .before .before .before .before .before)) _ _ (c .before .before .before .before .before .before .before .before .stepped .ensures) (c .before .before .before .before .before .before .new-record .ensures) _ _ (c .before .before .before .zero .ensures) (c .before .before .copy-runs .ensures)
+returns-3 c = split-done _ _ _ _ (past (c .before .before .before .before .before .before .before .before)) _ _ (c .before .before .before .before .before .before .before .stepped .ensures) (c .before .before .before .before .before .before .new-record .ensures) _ _ (c .before .before .before .zero .ensures) (c .before .before .copy-runs .ensures)
 
 pub split-off-spec : {M : Type 1} → statement M
 split-off-spec =
@@ -63,8 +63,8 @@ split-off-spec =
     enum-known-refusal
     returns
     enum-told
+    sub-later
     stepped-requires
-    sub-moved
     new-record-requires
     returns-2
     zero-requires

@@ -1,22 +1,19 @@
 -- `joins::values::extend` meets its contract. Assumes nothing.
-use native.Mathlib.Omega.{arith}
 use borrow.Author.Needs.{needs}
+use Rattle.joins.proofs.values.extend.Statement.{statement}
+use Rattle.joins.proofs.values.extend.Tie as tie
+use native.Mathlib.Omega.{arith}
 use denote.Ref.{now}
 use lib.ListN.{length}
 use Rattle.joins.proofs.Adds.{extended-refused, extended-none, extended}
 use Rattle.joins.proofs.Asks.{More, more}
 use Rattle.queue.proofs.Checks.{passed-zero, Fine, fine}
 use Rattle.queue.specs.Answers.{recOf}
-use Rattle.rules.proofs.Places.{place-low}
-use Rattle.joins.proofs.values.extend.Statement.{statement}
-use Rattle.joins.proofs.values.extend.Tie as tie
+use Rattle.joins.proofs.Behind.{place-in}
 
 -- past the tests there is room
 past : (c : tie.After-enum-told) → More (now (c .before .before .before .before .before .args .slots)) (recOf (c .before .before .before .before .before .args .q)) (length (now (c .before .before .before .before .before .args .values)))
 past c = more _ _ _ (passed-zero _ _ (c .before .before .check-more .ensures) (c .enum-told .given .1))
-
-ok : (c : tie.After-enum-told) → Fine (now (c .before .before .before .before .before .args .slots)) (recOf (c .before .before .before .before .before .args .q))
-ok c = fine _ _ (past c .first)
 
 check-more-requires : tie.Need-check-more-requires
 check-more-requires c κs = search needs
@@ -33,14 +30,14 @@ enum-told c = search needs
 returns-2 : tie.Need-returns-2
 returns-2 c = extended-none _ _ _ (past (c .before)) (c .if1 .taken)
 
+add-total : tie.Need-add-total
+add-total c = let m = past (c .before .before) in omega arith
+
 wrap-add-requires : tie.Need-wrap-add-requires
-wrap-add-requires c κs = let g = ok (c .before .before .before) in omega arith
+wrap-add-requires c κs = let m = past (c .before .before .before) in omega arith
 
 copy-slice-requires : tie.Need-copy-slice-requires
-copy-slice-requires c κs = let g = ok (c .before .before .before .before) .good in let m = past (c .before .before .before .before) .fits in (omega (arith, c .wrap-add .ensures, place-low (length (now (c .before .before .before .before .before .before .before .before .before .args .slots))) (c .before .before .before .before .before .before .before .before .before .args .q .head .0) (omega arith) (c .before .before .before .before .before .before .before .before .before .args .q .len) (omega arith)), omega arith)
-
-add-stepped : tie.Need-add-stepped
-add-stepped c = let g = ok (c .before .before .before .before .before .before .before) in let m = past (c .before .before .before .before .before .before .before) .fits in omega arith
+copy-slice-requires c κs = let m = past (c .before .before .before .before) in (place-in _ _ _ _ (c .wrap-add .ensures) (omega arith) (omega arith), omega arith)
 
 stepped-requires : tie.Need-stepped-requires
 stepped-requires c κs = search needs
@@ -60,9 +57,9 @@ extend-spec =
     returns
     enum-told
     returns-2
+    add-total
     wrap-add-requires
     copy-slice-requires
-    add-stepped
     stepped-requires
     same-length
     returns-3)

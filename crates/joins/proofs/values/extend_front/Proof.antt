@@ -1,22 +1,19 @@
 -- `joins::values::extend_front` meets its contract. Assumes nothing.
-use native.Mathlib.Omega.{arith}
 use borrow.Author.Needs.{needs}
+use Rattle.joins.proofs.values.extend_front.Statement.{statement}
+use Rattle.joins.proofs.values.extend_front.Tie as tie
+use native.Mathlib.Omega.{arith}
 use denote.Ref.{now}
 use lib.ListN.{length}
-use Rattle.joins.proofs.Adds.{fronted-refused, fronted-none, fronted}
+use Rattle.joins.proofs.Adds.{front-fits, fronted-refused, fronted-none, fronted}
 use Rattle.joins.proofs.Asks.{More, more}
 use Rattle.queue.proofs.Checks.{passed-zero, Fine, fine}
 use Rattle.queue.specs.Answers.{recOf}
 use Rattle.rules.proofs.Places.{stepBack-good}
-use Rattle.joins.proofs.values.extend_front.Statement.{statement}
-use Rattle.joins.proofs.values.extend_front.Tie as tie
 
 -- past the tests there is room
 past : (c : tie.After-enum-told) → More (now (c .before .before .before .before .before .args .slots)) (recOf (c .before .before .before .before .before .args .q)) (length (now (c .before .before .before .before .before .args .values)))
 past c = more _ _ _ (passed-zero _ _ (c .before .before .check-more .ensures) (c .enum-told .given .1))
-
-ok : (c : tie.After-enum-told) → Fine (now (c .before .before .before .before .before .args .slots)) (recOf (c .before .before .before .before .before .args .q))
-ok c = fine _ _ (past c .first)
 
 check-more-requires : tie.Need-check-more-requires
 check-more-requires c κs = search needs
@@ -33,23 +30,17 @@ enum-told c = search needs
 returns-2 : tie.Need-returns-2
 returns-2 c = fronted-none _ _ _ (past (c .before)) (c .if1 .taken)
 
-wrap-sub-requires : tie.Need-wrap-sub-requires
-wrap-sub-requires c κs = let g = ok (c .before) in let m = past (c .before) .fits in (omega arith, omega arith)
+stepped-back-requires : tie.Need-stepped-back-requires
+stepped-back-requires c κs = let m = past (c .before) in (omega arith, omega arith, omega arith)
 
 copy-slice-reversed-requires : tie.Need-copy-slice-reversed-requires
-copy-slice-reversed-requires c κs = let g = ok (c .before .before .before) .good in let m = past (c .before .before .before) .fits in (omega (arith, c .before .wrap-sub .ensures, stepBack-good (length (now (c .before .before .before .before .before .before .before .before .args .slots))) (c .before .before .before .before .before .before .before .before .args .q .head .0) (g .placed) (length (now (c .before .before .before .before .before .before .before .before .args .values)))), omega arith)
-
-add-stepped : tie.Need-add-stepped
-add-stepped c = let g = ok (c .before .before .before .before .before .before .before) in let m = past (c .before .before .before .before .before .before .before) .fits in omega arith
-
-stepped-requires : tie.Need-stepped-requires
-stepped-requires c κs = search needs
+copy-slice-reversed-requires c κs = front-fits _ _ (now (c .before .before .before .before .before .before .before .before .args .values)) (past (c .before .before .before)) (c .before .before .if1 .left) _ (c .before .stepped-back .ensures)
 
 same-length : tie.Need-same-length
 same-length c = search needs
 
 returns-3 : tie.Need-returns-3
-returns-3 c = fronted _ _ _ (past (c .before .before .before .before .before .before .before .before)) (c .before .before .before .before .before .before .before .if1 .left) _ _ _ (c .before .before .before .before .copy-slice-reversed .ensures) (c .before .before .before .before .before .before .wrap-sub .ensures) (c .stepped .ensures)
+returns-3 c = fronted _ _ _ (past (c .before .before .before .before .before .before)) (c .before .before .before .before .before .if1 .left) _ (c .before .before .before .before .stepped-back .ensures) _ (c .before .before .copy-slice-reversed .ensures)
 
 pub extend-front-spec : {M : Type 1} → statement M
 extend-front-spec =
@@ -60,9 +51,7 @@ extend-front-spec =
     returns
     enum-told
     returns-2
-    wrap-sub-requires
+    stepped-back-requires
     copy-slice-reversed-requires
-    add-stepped
-    stepped-requires
     same-length
     returns-3)

@@ -1,16 +1,16 @@
 -- `joins::values::resize` meets its contract. Assumes nothing.
+use borrow.Author.Needs.{needs}
+use Rattle.joins.proofs.values.resize.Statement.{statement}
+use Rattle.joins.proofs.values.resize.Tie as tie
 use mathlib.Core.Path.{_≡_}
 use native.Mathlib.Omega.{arith}
-use borrow.Author.Needs.{needs}
 use denote.Ref.{now}
 use lib.ListN.{length}
 use Rattle.joins.proofs.Adds.{resized-full, cut-down, filled-up}
 use Rattle.queue.proofs.Checks.{passed-zero, Fine, fine, told-first}
 use Rattle.queue.specs.Answers.{recOf}
-use Rattle.rules.proofs.Places.{place-low}
+use Rattle.joins.proofs.Behind.{place-in}
 use Rattle.rules.specs.Refusals.{onQueue}
-use Rattle.joins.proofs.values.resize.Statement.{statement}
-use Rattle.joins.proofs.values.resize.Tie as tie
 
 -- past the first tests nothing is refused
 past : (c : tie.After-enum-told) → onQueue (length (now (c .before .before .before .before .args .slots))) (recOf (c .before .before .before .before .args .q)) 0 ≡ 0
@@ -38,25 +38,22 @@ stepped-requires : tie.Need-stepped-requires
 stepped-requires c κs = search needs
 
 returns-3 : tie.Need-returns-3
-returns-3 c = cut-down _ _ (past (c .before .before .before .before)) _ _ _ (c .before .if2 .taken) (c .stepped .ensures)
+returns-3 c = cut-down _ _ (past (c .before .before .before .before)) _ _ _ (c .if2 .taken) (c .before .stepped .ensures)
 
 wrap-add-requires : tie.Need-wrap-add-requires
-wrap-add-requires c κs = let g = ok (c .before .before .before .before) in omega arith
+wrap-add-requires c κs = let g = ok (c .before .before .before .before .before) in omega arith
 
 sub-fill-slots : tie.Need-sub-fill-slots
 sub-fill-slots c = search needs
 
 fill-slots-requires : tie.Need-fill-slots-requires
-fill-slots-requires c κs = let g = ok (c .before .before .before .before .before) .good in (omega (arith, c .wrap-add .ensures, place-low (length (now (c .before .before .before .before .before .before .before .before .before .args .slots))) (c .before .before .before .before .before .before .before .before .before .args .q .head .0) (omega arith) (c .before .before .before .before .before .before .before .before .before .args .q .len) (omega arith)), omega arith)
-
-stepped-requires-2 : tie.Need-stepped-requires-2
-stepped-requires-2 c κs = search needs
+fill-slots-requires c κs = let g = ok (c .before .before .before .before .before .before) .good in (place-in _ _ _ _ (c .wrap-add .ensures) (omega arith) (omega arith), omega arith)
 
 same-length : tie.Need-same-length
 same-length c = search needs
 
 returns-4 : tie.Need-returns-4
-returns-4 c = filled-up _ _ (past (c .before .before .before .before .before .before .before .before .before)) _ _ _ _ _ (c .before .before .before .before .before .before .if2 .left) (c .before .before .before .before .before .before .before .before .if1 .left) (c .before .before .before .before .wrap-add .ensures) (c .before .before .before .fill-slots .ensures) (c .stepped2 .ensures)
+returns-4 c = filled-up _ _ (past (c .before .before .before .before .before .before .before .before .before)) _ _ _ _ _ (c .before .before .before .before .before .if2 .left) (c .before .before .before .before .before .before .before .before .if1 .left) (c .before .before .before .wrap-add .ensures) (c .before .before .fill-slots .ensures) (c .before .before .before .before .before .before .stepped .ensures)
 
 pub resize-spec : {M : Type 1} → statement M
 resize-spec =
@@ -72,6 +69,5 @@ resize-spec =
     wrap-add-requires
     sub-fill-slots
     fill-slots-requires
-    stepped-requires-2
     same-length
     returns-4)

@@ -1,0 +1,46 @@
+-- `compare::contains` meets its contract. Assumes nothing.
+use borrow.Author.Needs.{needs}
+use denote.Ref.{now}
+use Rattle.compare.proofs.Has.{seen-in-runs}
+use Rattle.queue.proofs.Checks.{passed-zero}
+use Rattle.queue.proofs.Looks.{look-first}
+use Rattle.queue.specs.Answers.{recOf}
+use Rattle.compare.proofs.contains.Statement.{statement}
+use Rattle.compare.proofs.contains.Tie as tie
+
+check-requires : tie.Need-check-requires
+check-requires c κs = search needs
+
+enum-known-refusal : tie.Need-enum-known-refusal
+enum-known-refusal c = search needs
+
+returns : tie.Need-returns
+returns c = look-first _ _ _ _ (c .before .before .before .check .ensures) _ (c .before .refusal .given .1)
+
+enum-told : tie.Need-enum-told
+enum-told c = search needs
+
+front-run-requires : tie.Need-front-run-requires
+front-run-requires c κs = search needs
+
+back-run-requires : tie.Need-back-run-requires
+back-run-requires c κs = search needs
+
+stands-in-requires : tie.Need-stands-in-requires
+stands-in-requires c κs = search needs
+
+returns-2 : tie.Need-returns-2
+returns-2 c = seen-in-runs _ (now (c .before .before .before .before .before .before .before .args .slots)) (recOf (c .before .before .before .before .before .before .before .args .q)) (passed-zero _ _ (c .before .before .before .before .before .check .ensures) (c .before .before .before .enum-told .given .1)) _ _ (c .before .before .front-run .ensures .0) (c .before .back-run .ensures .0) _ (c .stands-in .ensures)
+
+pub contains-spec : {M : Type 1} → statement M
+contains-spec =
+    tie.close
+    (tie.spec
+    check-requires
+    enum-known-refusal
+    returns
+    enum-told
+    front-run-requires
+    back-run-requires
+    stands-in-requires
+    returns-2)

@@ -1,0 +1,3 @@
+-- The answers as the public contracts read them, and what two lists have in common.
+pub mod Answers
+pub mod Common

@@ -1,0 +1,2 @@
+-- The answer as the public contract reads it.
+pub mod Answers
