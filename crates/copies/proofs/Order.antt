@@ -30,20 +30,21 @@ pub one-overlap : (cap s d n : ℕ) → s < cap → d < cap → OneOverlap cap s
 unfolding OneOverlap
 one-overlap cap s d n hs hd o other k = let w = way cap s d hs hd in omega arith
 
+-- y is the slot m after x
+reach : (cap x y m : ℕ) → x < cap → m ≤ cap → Wrap cap (x + m) y → y ≡ place cap x m
+reach cap x y m hx hm w = omega (arith, wrap cap (x + m) (omega arith))
+
 -- d stands e slots after s
 module _ (b : List ℕ) (s d e : ℕ) (hs : s < length b) (short : e < length b) (turn : Wrap (length b) (s + e) d) where
-  reach : (x y m : ℕ) → x < length b → m ≤ length b → Wrap (length b) (x + m) y → y ≡ place (length b) x m
-  reach x y m hx hm w = omega (arith, wrap (length b) (x + m) (omega arith))
-
   to : place (length b) s e ≡ d
-  to = sym (reach s d e hs (omega arith) turn)
+  to = sym (reach (length b) s d e hs (omega arith) turn)
 
   -- m slots, then the n after them
   pub up : (b1 b2 : List ℕ) (s2 d2 m n len : ℕ) → b1 ≡ copied b s d m → b2 ≡ copied b1 s2 d2 n → Wrap (length b) (s + m) s2 → Wrap (length b) (d + m) d2 → m + n ≡ len → len ≤ e → b2 ≡ copied b s d len
   up b1 b2 s2 d2 m n len q1 q2 ws wd sum k =
       let cap = length b in
-      let ps = reach s s2 m hs (omega arith) ws in
-      let pd = reach d d2 m (turn .low) (omega arith) wd in
+      let ps = reach cap s s2 m hs (omega arith) ws in
+      let pd = reach cap d d2 m (turn .low) (omega arith) wd in
       let same : length b1 ≡ cap = ap length q1 ∙ length-lay b d (listOf b s m) in
       q2 ∙ (λ t. write (same t) (q1 t) (pd t) (read (same t) (q1 t) (ps t) n)) ∙ copy-up cap b s d m n e hs to short (omega arith) (omega arith) ∙ ap (copied b s d) sum
 
@@ -51,8 +52,8 @@ module _ (b : List ℕ) (s d e : ℕ) (hs : s < length b) (short : e < length b)
   pub down : (b1 b2 : List ℕ) (s2 d2 m n len : ℕ) → b1 ≡ copied b s2 d2 n → b2 ≡ copied b1 s d m → Wrap (length b) (s + m) s2 → Wrap (length b) (d + m) d2 → m + n ≡ len → e + len ≤ length b → b2 ≡ copied b s d len
   down b1 b2 s2 d2 m n len q1 q2 ws wd sum k =
       let cap = length b in
-      let ps = reach s s2 m hs (omega arith) ws in
-      let pd = reach d d2 m (turn .low) (omega arith) wd in
+      let ps = reach cap s s2 m hs (omega arith) ws in
+      let pd = reach cap d d2 m (turn .low) (omega arith) wd in
       let start : b1 ≡ copied b (place cap s m) (place cap d m) n = q1 ∙ (λ t. copied b (ps t) (pd t) n) in
       let same : length b1 ≡ cap = ap length start ∙ length-lay b (place cap d m) (listOf b (place cap s m) n) in
       q2 ∙ (λ t. write (same t) (start t) d (read (same t) (start t) s m)) ∙ copy-down cap b s d m n e hs to short (omega arith) (omega arith) ∙ ap (copied b s d) sum

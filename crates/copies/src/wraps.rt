@@ -20,10 +20,10 @@ fn copy_dst_before_src(slots: &mut [u32], src: WrappedIndex, dst: WrappedIndex, 
         if dst_pre_wrap_len >= len {
             // src doesn't wrap, dst doesn't wrap
             //
-            //        D . . .
+            //            S . . .
             // 1 [_ _ C C A A B B _]
             // 2 [_ _ A A B B B B _]
-            //            S . . .
+            //        D . . .
             //
             copy(slots, src, dst, len);
         } else {

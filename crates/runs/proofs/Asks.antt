@@ -1,6 +1,6 @@
 -- A look that asks more than the tests of slots and record: refused, or what it sees. n: the number that it asks for. Assumes nothing.
 use mathlib.Core.List.{List}
-use mathlib.Core.Path.{_≡_, sym, _∙_, _≡_, refl}
+use mathlib.Core.Path.{_≡_, sym, _∙_, refl}
 use Prim.Native.Nat.{ℕ, zero, suc}
 use native.Mathlib.Omega.{arith}
 use lib.ListN.{length}
@@ -33,10 +33,10 @@ asks-first b r t asked x f k a = asks-refused _ a x (queue-stop (length b) r k (
 
 -- ---- what an answer tells of the look
 
-pub seen-is : {A : Type 0} (n : ℕ) (t u z : A) → sees t ≡ looked n u → t ≡ unless n u z
+pub seen-is : {A : Type 0} (n : ℕ) (t u : A) → sees t ≡ looked n u → (n ≡ 0) × (t ≡ u)
 unfolding looked unless
-seen-is zero t u z e = cc
-seen-is (suc n) t u z e = let o : _≡_ {A = ℕ} 0 1 = cc in absurd (omega arith)
+seen-is zero t u e = (refl, cc)
+seen-is (suc n) t u e = let o : _≡_ {A = ℕ} 0 1 = cc in absurd (omega arith)
 
 pub refused-is : {A : Type 0} (n m : ℕ) (u z : A) → refuses m ≡ looked n u → z ≡ unless n u z
 unfolding looked unless

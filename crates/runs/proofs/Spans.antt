@@ -1,12 +1,12 @@
 -- The runs lie in the slots, and the answer of the call for the two ranges gives them. Assumes nothing.
 use mathlib.Core.List.{List}
-use mathlib.Core.Path.{_≡_}
+use mathlib.Core.Path.{_≡_, _∙_, sym}
 use Prim.Native.Nat.{ℕ, _≤_, _-_}
 use native.Mathlib.Omega.{arith}
 use lib.ListN.{length}
 use Rattle.rules.proofs.Places.{place-good}
 use Rattle.rules.proofs.Refusals.{queue-ok, range-ok}
-use Rattle.rules.proofs.Tests.{by-refusal}
+use Rattle.rules.proofs.Tests.{by-refusal, unless-go}
 use Rattle.rules.specs.Looks.{sees, refuses}
 use Rattle.rules.specs.Places.{place}
 use Rattle.rules.specs.Records.{Rec}
@@ -45,7 +45,7 @@ runs-within b r s e =
 module _ (b : List ℕ) (r : Rec) (s e : ℕ) where
   pub runs-seen : (t : TwoRuns) → sees t ≡ lookRuns b r s e → t ≡ runsOr b r s e
   unfolding lookRuns runsOr
-  runs-seen t = seen-is _ t _ _
+  runs-seen t q = let k = seen-is _ t _ q in k .1 ∙ sym (unless-go _ _ _ (k .0))
 
   pub runs-refused : (m : ℕ) → refuses m ≡ lookRuns b r s e → none-of ≡ runsOr b r s e
   unfolding lookRuns runsOr

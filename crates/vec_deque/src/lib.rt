@@ -82,6 +82,12 @@ pub use compare::cmp;
 pub use compare::contains;
 pub use compare::eq;
 
+// Searching.
+pub use search::Point;
+pub use search::Searched;
+pub use search::binary_search;
+pub use search::partition_point;
+
 // Saved images.
 pub use images::Written;
 pub use images::read_image;
