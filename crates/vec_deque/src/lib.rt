@@ -71,7 +71,6 @@ pub use walks::Stepped;
 pub use walks::Walk;
 pub use walks::begin_walk;
 pub use walks::iter;
-pub use walks::walk_after;
 pub use walks::walk_next;
 pub use walks::walk_next_back;
 
