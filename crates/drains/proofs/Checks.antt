@@ -33,6 +33,7 @@ module _ (c : ℕ) (d : Drain) where
       go true e = absurd (g tt (good-drain c d (rw e tt)))
       go false e = sym e
 
+  -- a test of it fails
   pub bad : (GoodDrain c d → ⊥) → false ≡ goodDrain c d
   bad f = decided false (λ t. absurd t) (λ t. f)
 

@@ -24,17 +24,20 @@ use Rattle.rules.specs.Tests.{whether, unless}
 -- ---- one law for each return of `close_hole`
 
 module _ (b : List ℕ) (h s r k t : ℕ) where
+  -- nothing moves
   pub no-hole : h ≤ length b - 1 → s + r + k + t ≤ length b → k ≡ 0 → HoleClosed b b h s r k t h 0
   unfolding joinedHead joinedMoved whether
   no-hole good fits z = rw z (record { head = refl; moved = refl; room = rw zero-add (none-moved b h s r t good (omega arith)) })
 
   module _ (hh : h < length b) (fits : s + r + k + t ≤ length b) (some : k ≢ 0) where
+    -- the earlier elements move
     pub by-head : (b′ : List ℕ) (h′ : ℕ) → s + r < t → h′ ≡ place (length b) h k → b′ ≡ copied b h h′ s → HoleClosed b b′ h s r k t h′ s
     unfolding joinedHead joinedMoved whether
     by-head b′ h′ lt stepped moved =
         rw (moved, stepped)
         (record { head = rw (ne-eqb k 0 some, lt-ltb (s + r) t lt); moved = rw (ne-eqb k 0 some, lt-ltb (s + r) t lt); room = head-moved b h s (k + r) t hh (omega arith) r k refl })
 
+    -- the tail moves
     pub by-tail : (b′ : List ℕ) → t ≤ s + r → b′ ≡ copied b (place (length b) h (s + r + k)) (place (length b) h (s + r)) t → HoleClosed b b′ h s r k t h t
     unfolding joinedHead joinedMoved whether
     by-tail b′ ge moved =
@@ -55,6 +58,7 @@ lay-over b h n l e =
 smaller : (s t : ℕ) → whether (ltb s t) s t ≡ min s t
 smaller s t = by-test (ltb s t) (λ m. m ≡ min s t) (λ lt. omega (arith, ltb→lt s t lt)) (λ ge. omega (arith, nltb→le s t ge))
 
+-- an accepted closing: what is kept is laid from the new head
 pub drain-closed : (b b′ : List ℕ) (d : Drain) (h′ m : ℕ) (r : Rec) → onDrain (length b) d ≡ 0 → HoleClosed b b′ (d .head) (d .start) 0 (d .drained) (d .tail) h′ m → r ≡ shutFrom d h′
     → (record { refused = 0; moved = m; held = shut r; handed = none }, b′) ≡ told (doClose b d)
 unfolding doClose closed closedRec closedHead closedMoved joinedHead joinedMoved shutFrom unless keptList wholeList spread

@@ -45,6 +45,7 @@ module _ (b : List ℕ) (r : Rec) (s e : ℕ) where
     unfolding onOpening numberOf
     open-range z = stopped 3 (λ e. omega arith) (queue-go (length b) r _ first ∙ z)
 
+    -- accepted: the drain's record, and nothing is written
     pub opens : (d : Drain) → s ≤ e → e ≤ r .len → d ≡ opened r s e → (record { refused = 0; moved = 0; held = drawn d; handed = none }, b) ≡ told (doOpen b r s e)
     unfolding onOpening doOpen unchanged
     opens d le le′ made = rw (queue-go (length b) r _ first ∙ range-in (r .len) s e 0 le le′, unless-go, made)
@@ -70,6 +71,7 @@ module _ (b : List ℕ) (d : Drain) (first : onDrain (length b) d ≡ 0) where
         let many : d .remaining ≡ suc (d .remaining - 1) = omega arith in
         rw (first, from-slot ∙ sym (getD-listOf b (d .head) (omega arith) _ i (g .fits) in-list), ap step many, done)
 
+  -- `next` and `next_back` by these
   pub next-none : d .remaining ≡ 0 → (record { refused = 0; moved = 0; held = drawn d; handed = none }, b) ≡ told (doNext b d)
   unfolding doNext nextOf
   next-none = draws-none (nextOf b d) refl

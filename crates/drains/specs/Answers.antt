@@ -20,15 +20,18 @@ drainOf d = record { head = d .head .0; start = d .start; drained = d .«drain_l
 abbrev pub drawing : ℕ → ℕ → Draining → Option ℕ → Answer
 drawing n m d v = record { refused = n; moved = m; held = drawn (drainOf d); handed = v }
 
+-- of the opening: the drain's record, or the same record of the queue with a refusal number
 abbrev pub ofOpened : Opened → Answer
 ofOpened (Open d m) = drawing 0 m d none
 ofOpened (NotOpened x q m) = answer (numberOf x) m q none
 
+-- of `next` and `next_back`: what is handed over and the drain's record after; Nothing, without change; a refusal number and the same record
 abbrev pub ofDrawn : Drawn → Answer
 ofDrawn (Number v d m) = drawing 0 m d (some v)
 ofDrawn (Nothing d m) = drawing 0 m d none
 ofDrawn (NotDrawn x d m) = drawing (numberOf x) m d none
 
+-- of the closing: the queue's record, or the same record of the drain with a refusal number
 abbrev pub ofClosed : Closed → Answer
 ofClosed (Done q m) = answer 0 m q none
 ofClosed (NotClosed x d m) = drawing (numberOf x) m d none

@@ -12,6 +12,8 @@ pub use calls::drain;
 pub use calls::drain_close;
 pub use calls::drain_next;
 pub use calls::drain_next_back;
+
+// What `splices` uses too.
 pub use holes::Joined;
 pub use holes::close_hole;
 pub use holes::head_over;

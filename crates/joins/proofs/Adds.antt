@@ -52,10 +52,11 @@ module _ (b : List ℕ) (r : Rec) (vs : List ℕ) (t : Checked) (x : Refusal) (a
   fronted-refused = refused-by (extendFront vs) (rw length-reverse)
 
 module _ (b : List ℕ) (r : Rec) (vs : List ℕ) (m : More b r (length vs)) where
-  -- nothing is lent: nothing is done
+  -- where nothing is lent
   empty : length vs ≡ 0 → map (numbers .made) vs ≡ []
   empty e = map-made vs ∙ sym (take-all 0 vs (omega arith))
 
+  -- nothing is done
   pub extended-none : length vs ≡ 0 → (record { refused = 0; moved = 0; held = shut r; handed = none }, b) ≡ told (doRule b r (extendWith vs))
   unfolding extendWith
   extended-none e = accepts-same b r (extendWith vs) (m .first) (some-room _ _ (m .fits)) refl (omega arith) refl refl (rw (empty e) (append-nil (held b r)))

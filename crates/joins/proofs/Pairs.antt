@@ -21,7 +21,7 @@ use Rattle.rules.specs.Slots.{lay, listOf}
 use Rattle.rules.specs.Tests.{unless}
 use Rattle.queue.specs.declared.Refusal.{Refusal}
 use Rattle.queue.specs.declared.Checked.{Checked}
-use Rattle.queue.specs.declared.Checked.the-variants.{Refused as Failed, Good as Passed}
+use Rattle.queue.specs.declared.Checked.the-variants.{Refused as Failed}
 
 -- ---- `append`
 

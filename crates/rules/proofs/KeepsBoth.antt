@@ -17,11 +17,11 @@ use Rattle.rules.specs.Count.{tally}
 use Rattle.rules.specs.Outcome.{Held, shut}
 use Rattle.rules.specs.Pairs.{onAppending, appended, appendedRec, emptied, doAppend, onSplitting, targetRec, splitted, splitRec, doSplit}
 use Rattle.rules.specs.Records.{Rec, held, newRec}
-use Rattle.rules.specs.Sequences.{Queue, Step, stands, noStep, madeOr, queueOf, bothStep, appendStep, splitStep, Call, firstStep, oneStep, on, appending, splitting, Pair, step, sideA, turn, sideB, Turn, Side}
+use Rattle.rules.specs.Sequences.{Queue, CallStep, stands, noStep, madeOr, queueOf, bothStep, appendStep, splitStep, Call, firstStep, oneStep, on, appending, splitting, Pair, step, sideA, turn, sideB, Turn, Side}
 use Rattle.rules.specs.Slots.{lay}
 use Rattle.rules.specs.Tests.{unless}
 
-pub record Keeps2 (p q : Queue) (s : Step) : Type 0 where
+pub record Keeps2 (p q : Queue) (s : CallStep) : Type 0 where
   pub slots-a : length (s .queues .a .slots) ≡ length (p .slots)
   pub slots-b : length (s .queues .b .slots) ≡ length (q .slots)
   pub fit-a : Fit (s .queues .a .slots) (s .queues .a .held)

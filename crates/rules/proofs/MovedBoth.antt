@@ -19,7 +19,7 @@ use Rattle.rules.specs.Outcome.{shut, Held}
 use Rattle.rules.specs.Pairs.{onAppending, appended, appendedRec, emptied, onSplitting, splitted, splitRec, targetRec, Paired, doAppend, doSplit}
 use Rattle.rules.specs.Places.{place}
 use Rattle.rules.specs.Records.{Rec, stepped, newRec}
-use Rattle.rules.specs.Sequences.{Side, sideA, sideB, Queue, Call, Step, bothStep, queueOf, appending, madeOr, splitting, stands, noStep, appendStep, splitStep, firstStep, oneStep, on}
+use Rattle.rules.specs.Sequences.{Side, sideA, sideB, Queue, Call, CallStep, bothStep, queueOf, appending, madeOr, splitting, stands, noStep, appendStep, splitStep, firstStep, oneStep, on}
 use Rattle.rules.specs.Tests.{unless}
 
 -- every element that stood in the other queue has moved
@@ -39,7 +39,7 @@ unfolding elsewhere
 a-in-b s p = refl
 
 -- what a step's moved count should be
-abbrev pub CountedBoth : Queue → Queue → Call → Step → Type 0
+abbrev pub CountedBoth : Queue → Queue → Call → CallStep → Type 0
 CountedBoth p q k o =
     let m = bothAfter (p .held) (q .held) k (marksOf sideA (p .slots) (p .held)) (marksOf sideB (q .slots) (q .held)) in
     o .moved ≡ strays sideA (m .ours) (placesOf (length (o .queues .a .slots)) (o .queues .a .held)) + strays sideB (m .theirs) (placesOf (length (o .queues .b .slots)) (o .queues .b .held))

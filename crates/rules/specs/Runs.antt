@@ -19,8 +19,8 @@ pub record TwoRuns : Type 0 where
   pub front : Span
   pub back : Span
 
-abbrev pub span : ℕ → ℕ → Span
-span a e = record { a = a; e = e }
+abbrev pub fromTo : ℕ → ℕ → Span
+fromTo a e = record { a = a; e = e }
 
 abbrev pub twoRuns : Span → Span → TwoRuns
 twoRuns f k = record { front = f; back = k }
@@ -29,8 +29,8 @@ twoRuns f k = record { front = f; back = k }
 unfoldable pub runs : ℕ → ℕ → ℕ → ℕ → TwoRuns
 runs cap head s e =
     let w = place cap head s in
-    whether (eqb s e) (twoRuns (span 0 0) (span 0 0))
-    (whether (leb (e - s) (cap - w)) (twoRuns (span w (w + (e - s))) (span 0 0)) (twoRuns (span w cap) (span 0 (e - s - (cap - w)))))
+    whether (eqb s e) (twoRuns (fromTo 0 0) (fromTo 0 0))
+    (whether (leb (e - s) (cap - w)) (twoRuns (fromTo w (w + (e - s))) (fromTo 0 0)) (twoRuns (fromTo w cap) (fromTo 0 (e - s - (cap - w)))))
 
 -- what a range of positions asks
 unfoldable pub onRange : ℕ → Rec → ℕ → ℕ → ℕ
@@ -42,7 +42,7 @@ lookRuns b r s e = looked (onRange (length b) r s e) (runs (length b) (r .head) 
 
 -- the two runs; refused, 0..0 twice
 unfoldable pub runsOr : List ℕ → Rec → ℕ → ℕ → TwoRuns
-runsOr b r s e = unless (onRange (length b) r s e) (runs (length b) (r .head) s e) (twoRuns (span 0 0) (span 0 0))
+runsOr b r s e = unless (onRange (length b) r s e) (runs (length b) (r .head) s e) (twoRuns (fromTo 0 0) (fromTo 0 0))
 
 -- that part of the slots
 unfoldable pub part : List ℕ → Span → List ℕ

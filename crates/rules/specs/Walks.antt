@@ -17,7 +17,7 @@ pub record Walk : Type 0 where
   pub high : ℕ
 
 -- what a step tells: the refusal number, 0 if there is none; the walk; what it gives
-pub record Step : Type 0 where
+pub record WalkStep : Type 0 where
   pub refused : ℕ
   pub walk : Walk
   pub gives : Option ℕ
@@ -27,7 +27,7 @@ unfoldable pub onWalk : ℕ → Walk → ℕ
 onWalk cap w = onQueue cap (w .rec) (ask (leb (w .low) (w .high) && leb (w .high) (w .rec .len)) 2 0)
 
 -- refused with n, or n is 0 and there is Nothing left: the same walk
-unfoldable pub sameWalk : Walk → ℕ → Step
+unfoldable pub sameWalk : Walk → ℕ → WalkStep
 sameWalk w n = record { refused = n; walk = w; gives = none }
 
 -- a walk over the whole list
@@ -38,7 +38,7 @@ unfoldable pub beginWalk : List ℕ → Rec → Look Walk
 beginWalk b r = looked (onQueue (length b) r 0) (wholeWalk r)
 
 -- `next` gives the element at the low end, which steps on by one
-unfoldable pub nextStep : List ℕ → Walk → Step
+unfoldable pub nextStep : List ℕ → Walk → WalkStep
 nextStep b w =
     let n = onWalk (length b) w in
     unless n
@@ -48,7 +48,7 @@ nextStep b w =
     (sameWalk w n)
 
 -- `next_back` gives the element before the high end, which steps back by one
-unfoldable pub nextBackStep : List ℕ → Walk → Step
+unfoldable pub nextBackStep : List ℕ → Walk → WalkStep
 nextBackStep b w =
     let n = onWalk (length b) w in
     unless n

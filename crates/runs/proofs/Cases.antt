@@ -6,20 +6,20 @@ use borrow.Author.Tests.{eq-eqb, ne-eqb, le-leb, lt-leb}
 use lib.Dec.{eqb, eqb→eq, leb, leb→le, nleb→lt}
 use Rattle.rules.proofs.Tests.{by-test, neqb→ne}
 use Rattle.rules.specs.Places.{place}
-use Rattle.rules.specs.Runs.{TwoRuns, twoRuns, span, runs}
+use Rattle.rules.specs.Runs.{TwoRuns, twoRuns, fromTo, runs}
 use Rattle.rules.specs.Tests.{whether}
 
 -- 0..0 and 0..0
 abbrev pub none-of : TwoRuns
-none-of = twoRuns (span 0 0) (span 0 0)
+none-of = twoRuns (fromTo 0 0) (fromTo 0 0)
 
 -- from w on n slots, which there are
 abbrev pub one-of : ℕ → ℕ → TwoRuns
-one-of w n = twoRuns (span w (w + n)) (span 0 0)
+one-of w n = twoRuns (fromTo w (w + n)) (fromTo 0 0)
 
 -- from w on all c slots, and the rest of n from slot 0 on
 abbrev pub two-of : ℕ → ℕ → ℕ → TwoRuns
-two-of c w n = twoRuns (span w c) (span 0 (n - (c - w)))
+two-of c w n = twoRuns (fromTo w c) (fromTo 0 (n - (c - w)))
 
 module _ (c h s e : ℕ) where
   pub runs-none : s ≡ e → none-of ≡ runs c h s e

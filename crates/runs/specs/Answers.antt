@@ -8,7 +8,7 @@ use Rattle.runs.specs.declared.Ranges.the-variants.{Runs, Refused}
 
 -- from start to before end
 abbrev pub spanOf : Span → rules.Span
-spanOf p = rules.span (p .start) (p .end)
+spanOf p = rules.fromTo (p .start) (p .end)
 
 -- the two runs, or the refusal number
 abbrev pub ofRanges : Ranges → Look rules.TwoRuns

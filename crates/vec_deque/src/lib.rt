@@ -24,11 +24,13 @@ pub use ends::pop_front;
 pub use ends::pop_front_if;
 pub use ends::push_back;
 pub use ends::push_front;
-pub use ends::swap;
-pub use ends::swap_remove_back;
-pub use ends::swap_remove_front;
 pub use ends::truncate;
 pub use ends::truncate_front;
+
+// An element in another's place.
+pub use swaps::swap;
+pub use swaps::swap_remove_back;
+pub use swaps::swap_remove_front;
 
 // The middle.
 pub use middle::insert;

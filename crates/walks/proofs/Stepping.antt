@@ -42,7 +42,7 @@ use denote.Triple.Spec.{Meets, tripleOf}
 use denote.Triple.Walked.{says, Stays, stay-none, walkOf, goes-none, Walks, ends-at, walked, walk-meets}
 use denote.Triple.Clauses.{Clauses, ensured, lasts, closing}
 use denote.Exit.{yes}
-use Rattle.rules.specs.Walks.{Walk as RuledWalk, Step as RuledStep}
+use Rattle.rules.specs.Walks.{Walk as RuledWalk, WalkStep as RuledStep}
 use Rattle.walks.specs.Answers.{ofStepped, walkIn, walkOf as ruled}
 use Rattle.walks.specs.declared.Walk.{Walk}
 use Rattle.walks.specs.declared.Stepped.{Stepped}

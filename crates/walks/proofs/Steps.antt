@@ -19,7 +19,7 @@ use Rattle.rules.specs.Places.{place}
 use Rattle.rules.specs.Records.{Rec, held}
 use Rattle.rules.specs.Refusals.{onQueue}
 use Rattle.rules.specs.Tests.{unless, ask, whether}
-use Rattle.rules.specs.Walks.{beginWalk, wholeWalk, Walk, Step, onWalk, nextStep, nextBackStep, sameWalk}
+use Rattle.rules.specs.Walks.{beginWalk, wholeWalk, Walk, WalkStep, onWalk, nextStep, nextBackStep, sameWalk}
 use Rattle.queue.specs.declared.Refusal.{Refusal}
 use Rattle.queue.specs.declared.Refusal.the-variants.{Record}
 
@@ -85,7 +85,7 @@ element-at b r i p first lt e =
 pub data End : Type 0 where
   front back : End
 
-abbrev pub stepAt : End → List ℕ → Walk → Step
+abbrev pub stepAt : End → List ℕ → Walk → WalkStep
 stepAt front = nextStep
 stepAt back = nextBackStep
 
@@ -100,7 +100,7 @@ walkAfter front w = record { rec = w .rec; low = w .low + 1; high = w .high }
 walkAfter back w = record { rec = w .rec; low = w .low; high = w .high - 1 }
 
 -- what it tells where there is something left
-abbrev giving : End → List ℕ → Walk → Step
+abbrev giving : End → List ℕ → Walk → WalkStep
 giving e b w = record { refused = 0; walk = walkAfter e w; gives = some (getD (held b (w .rec)) (nextAt e w) 0) }
 
 step-is : (e : End) (b : List ℕ) (w : Walk)

@@ -12,7 +12,7 @@ use Rattle.rules.proofs.Tests.{lt-or-ge}
 use Rattle.rules.specs.Count.{asList}
 use Rattle.rules.specs.Records.{Rec, held}
 use Rattle.rules.specs.Refusals.{onQueue}
-use Rattle.rules.specs.Walks.{Walk, Step, onWalk, wholeWalk, nextStep, nextBackStep}
+use Rattle.rules.specs.Walks.{Walk, WalkStep, onWalk, wholeWalk, nextStep, nextBackStep}
 use Rattle.walks.proofs.Steps.{End, front, back, stepAt, nextAt, walkAfter, walkable, none-stops, nothing-left, one-given}
 
 -- what a walk has still to give
@@ -46,7 +46,7 @@ module _ (b : List ℕ) (w : Walk) (z : onWalk (length b) w ≡ 0) where
   none-ahead le = let none-left : w .high - w .low ≡ 0 = omega arith in ap (λ (n : ℕ). take n (drop (w .low) (held b (w .rec)))) none-left
 
   -- by cases: nothing is left, and a step changes nothing; or it gives one
-  by-cases : (e : End) (P : Step → Type 0) → (ahead b w ≡ [] → P (record { refused = 0; walk = w; gives = none }))
+  by-cases : (e : End) (P : WalkStep → Type 0) → (ahead b w ≡ [] → P (record { refused = 0; walk = w; gives = none }))
       → (w .low < w .high → P (record { refused = 0; walk = walkAfter e w; gives = some (getD (held b (w .rec)) (nextAt e w) 0) })) → P (stepAt e b w)
   by-cases e P f g =
       let k = walkable b w z in
@@ -56,16 +56,16 @@ module _ (b : List ℕ) (w : Walk) (z : onWalk (length b) w ≡ 0) where
   -- `next` gives the first of what is left, and leaves the others
   pub next-takes : ahead b w ≡ asList (nextStep b w .gives) ++ ahead b (nextStep b w .walk)
   unfolding asList
-  next-takes = by-cases front (λ (s : Step). ahead b w ≡ asList (s .gives) ++ ahead b (s .walk)) (λ _. refl) takes-first
+  next-takes = by-cases front (λ (s : WalkStep). ahead b w ≡ asList (s .gives) ++ ahead b (s .walk)) (λ _. refl) takes-first
 
   -- `next_back` gives the last, and leaves the others
   pub next-back-takes : ahead b w ≡ ahead b (nextBackStep b w .walk) ++ asList (nextBackStep b w .gives)
   unfolding asList
-  next-back-takes = by-cases back (λ (s : Step). ahead b w ≡ ahead b (s .walk) ++ asList (s .gives)) (λ e. e ∙ sym (ap (λ (l : List ℕ). l ++ []) e)) takes-last
+  next-back-takes = by-cases back (λ (s : WalkStep). ahead b w ≡ ahead b (s .walk) ++ asList (s .gives)) (λ e. e ∙ sym (ap (λ (l : List ℕ). l ++ []) e)) takes-last
 
   -- Nothing comes only where nothing is left
   pub nothing-ahead : (e : End) → stepAt e b w .gives ≡ none → ahead b w ≡ []
-  nothing-ahead e = by-cases e (λ (s : Step). s .gives ≡ none → ahead b w ≡ []) (λ none-left _. none-left) (λ lt same. cc)
+  nothing-ahead e = by-cases e (λ (s : WalkStep). s .gives ≡ none → ahead b w ≡ []) (λ none-left _. none-left) (λ lt same. cc)
 
   after-good : (e : End) → w .low < w .high → onWalk (length b) (walkAfter e w) ≡ 0
   after-good front lt = let k = walkable b w z in sym (none-stops (length b) (walkAfter front w) (k .first) (omega arith) (omega arith))
@@ -73,7 +73,7 @@ module _ (b : List ℕ) (w : Walk) (z : onWalk (length b) w ≡ 0) where
 
   -- the walk after a step is good
   pub goes-on : (e : End) → onWalk (length b) (stepAt e b w .walk) ≡ 0
-  goes-on e = by-cases e (λ (s : Step). onWalk (length b) (s .walk) ≡ 0) (λ _. z) (after-good e)
+  goes-on e = by-cases e (λ (s : WalkStep). onWalk (length b) (s .walk) ≡ 0) (λ _. z) (after-good e)
 
 -- what n steps from the front give
 unfoldable pub fronts : ℕ → List ℕ → Walk → List ℕ

@@ -2,7 +2,7 @@
 use mathlib.Core.Option.{some, none}
 use Rattle.queue.specs.Answers.{recOf, numberOf}
 use Rattle.rules.specs.Looks.{Look, sees, refuses}
-use Rattle.rules.specs.Walks.{Walk as RuledWalk, Step}
+use Rattle.rules.specs.Walks.{Walk as RuledWalk, WalkStep}
 use Rattle.walks.specs.declared.Walk.{Walk}
 use Rattle.walks.specs.declared.Iterator.{Iterator}
 use Rattle.walks.specs.declared.Begun.{Begun}
@@ -24,7 +24,7 @@ ofBegun (Begins w) = sees (walkOf w)
 ofBegun (NotBegun x) = refuses (numberOf x)
 
 -- a step: refusal number, the walk after it, and what it gives
-abbrev pub ofStepped : Stepped → Step
+abbrev pub ofStepped : Stepped → WalkStep
 ofStepped (Number v w) = record { refused = 0; walk = walkOf w; gives = some v }
 ofStepped (Nothing w) = record { refused = 0; walk = walkOf w; gives = none }
 ofStepped (Refused x w) = record { refused = numberOf x; walk = walkOf w; gives = none }

@@ -1,3 +1,0 @@
--- One law for each return of a swap, over the laws of its stores; a function's proof applies them.
-mod Stores
-mod Laws
