@@ -46,19 +46,21 @@ pub fn slice_ranges(slots: &[u32], q: Deque, start: usize, end: usize) -> Ranges
     let n = end - start;
     let room = cap - w;
     if room >= n {
+        let stop = w + n;
         return Ranges::Runs {
             front: Span {
                 start: w,
-                end: w + n,
+                end: stop,
             },
             back: Span { start: 0, end: 0 },
         };
     }
+    let rest = n - room;
     Ranges::Runs {
         front: Span { start: w, end: cap },
         back: Span {
             start: 0,
-            end: n - room,
+            end: rest,
         },
     }
 }

@@ -115,5 +115,6 @@ pub fn partition_point(slots: &[u32], q: Deque, test: Test) -> Point
     let back = runs::back_run(slots, q, 0, len);
     let run = handed_run(front, back, test);
     let low = place_in(run, test);
-    Point::At(counted_from(front, back, test) + low)
+    let at = counted_from(front, back, test) + low;
+    Point::At(at)
 }

@@ -62,14 +62,14 @@ as-index-requires c κs = search needs
 sub-room : tie.Need-sub-room
 sub-room c = let k = slot c in omega arith
 
-add-t17 : tie.Need-add-t17
-add-t17 c = let k = slot (c .before) in let g = ok (c .before .before .before .before .before .before .before) .good in omega arith
+add-stop : tie.Need-add-stop
+add-stop c = let k = slot (c .before) in let g = ok (c .before .before .before .before .before .before .before) .good in omega arith
 
 returns-5 : tie.Need-returns-5
 returns-5 c = range-seen _ _ _ _ (past (c .before .before .before .before .before .before .before)) (c .before .before .before .before .before .before .if1 .left) (c .before .before .before .before .if2 .left) _ (rw (at-w (c .before)) (runs-one _ _ _ _ (c .before .before .before .if3 .left) (rw (at-w (c .before)) at (c .if4 .taken))))
 
-sub-t21 : tie.Need-sub-t21
-sub-t21 c = search needs
+sub-rest : tie.Need-sub-rest
+sub-rest c = search needs
 
 returns-6 : tie.Need-returns-6
 returns-6 c = range-seen _ _ _ _ (past (c .before .before .before .before .before .before .before)) (c .before .before .before .before .before .before .if1 .left) (c .before .before .before .before .if2 .left) _ (rw (at-w (c .before)) (runs-two _ _ _ _ (c .before .before .before .if3 .left) (rw (at-w (c .before)) at (c .if4 .left))))
@@ -88,7 +88,7 @@ slice-ranges-spec =
     wrap-add-requires
     as-index-requires
     sub-room
-    add-t17
+    add-stop
     returns-5
-    sub-t21
+    sub-rest
     returns-6)

@@ -42,8 +42,8 @@ place-in-requires c κs = search needs
 counted-from-requires : tie.Need-counted-from-requires
 counted-from-requires c κs = search needs
 
-add-t13 : tie.Need-add-t13
-add-t13 c = let k = small _ _ (past (c .before .before .before .before .before)) _ _ (c .before .before .before .before .front-run .ensures .0) (c .before .before .before .back-run .ensures .0) _ _ _ _ (c .before .before .handed-run .ensures) (c .counted-from .ensures) (c .before .place-in .ensures .0) in omega arith
+add-at : tie.Need-add-at
+add-at c = let k = small _ _ (past (c .before .before .before .before .before)) _ _ (c .before .before .before .before .front-run .ensures .0) (c .before .before .before .back-run .ensures .0) _ _ _ _ (c .before .before .handed-run .ensures) (c .counted-from .ensures) (c .before .place-in .ensures .0) in omega arith
 
 returns-2 : tie.Need-returns-2
 returns-2 c = point-seen _ _ (past (c .before .before .before .before .before)) _ _ (c .before .before .before .before .front-run .ensures .0) (c .before .before .before .back-run .ensures .0) _ _ (point-handed _ _ _ _ _ _ (c .before .before .handed-run .ensures) (c .counted-from .ensures) (c .before .place-in .ensures .1))
@@ -61,5 +61,5 @@ partition-point-spec =
     handed-run-requires
     place-in-requires
     counted-from-requires
-    add-t13
+    add-at
     returns-2)

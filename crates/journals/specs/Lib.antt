@@ -1,0 +1,3 @@
+-- The answers, and what it is for bytes to be put.
+pub mod Answers
+pub mod Lines
