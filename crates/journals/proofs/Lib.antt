@@ -1,6 +1,3 @@
--- What the functions' proofs cite: bytes put one behind the other, decimal digits, the layout of a record, the answers.
-pub mod Puts
-pub mod Digits
-pub mod Words
+-- What the functions' proofs cite: the layout of a record, and the answers.
 pub mod RecordBytes
 pub mod Performs

@@ -5,7 +5,7 @@ use mathlib.Core.Path.{_≡_, refl, sym, _∙_, ap}
 use Prim.Native.Nat.{ℕ}
 use native.Mathlib.Omega.{arith}
 use lib.ListN.{length}
-use Rattle.journals.specs.Answers.{entryFor}
+use Rattle.journals.specs.Records.{entryFor}
 use Rattle.rules.proofs.Drains.{opened-good, drain-asks}
 use Rattle.rules.proofs.Refusals.{slots-asks, slots-ok}
 use Rattle.rules.proofs.Tests.{by-either}
@@ -18,6 +18,7 @@ use Rattle.rules.specs.Tests.{unless}
 use Rattle.journals.specs.declared.records.Operation.{Operation}
 use Rattle.queue.specs.Answers.{answer, numberOf, recOf}
 use Rattle.queue.proofs.Numbers.{some-number}
+use Rattle.answers.proofs.Numbered.{numbered}
 use Rattle.drains.specs.Answers.{drainOf, ofOpened, ofClosed}
 use Rattle.queue.specs.declared.Refusal.{Refusal}
 use Rattle.queue.specs.declared.Deque.{Deque}
@@ -26,10 +27,6 @@ use Rattle.drains.specs.declared.answers.Opened.{Opened}
 use Rattle.drains.specs.declared.answers.Opened.the-variants.{Done as Open, Refused as NotOpened}
 use Rattle.drains.specs.declared.answers.Closed.{Closed}
 use Rattle.drains.specs.declared.answers.Closed.the-variants.{Refused as NotClosed}
-
--- a refusal's number
-pub numbered : (n m : ℕ) (q : Deque) (x : Refusal) → n ≡ numberOf x → answer n m q none ≡ answer (numberOf x) m q none
-numbered n m q x e = ap (λ (k : ℕ). answer k m q none) e
 
 -- an operation that is known answers as its call does
 pub performs : (b b′ : List ℕ) (r : Rec) (o k : Operation) (p a : Answer) → o ≡ k → p ≡ a → (a, b′) ≡ told (doEntry b r (entryFor k)) → (p, b′) ≡ told (doEntry b r (entryFor o))

@@ -1,3 +1,2 @@
--- The answers, and what it is for bytes to be put.
-pub mod Answers
-pub mod Lines
+-- What stands at a position of the bytes.
+pub mod Records

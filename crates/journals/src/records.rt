@@ -4,7 +4,7 @@ ghost use mathlib.Core.Path.{_≡_};
 ghost use Prim.Native.Nat.{ℕ, _+_, _≤_};
 ghost use lib.ListN.{length};
 ghost use Rattle.rules.specs.Journals.{entryOf, lengthOf, recordAt, someLength, wordAt};
-ghost use Rattle.journals.specs.Answers.{entryFor, ofRecord};
+ghost use Rattle.journals.specs.Records.{entryFor, ofRecord};
 
 // The nine operations of a journal, with their operands.
 pub enum Operation {

@@ -40,7 +40,7 @@ fn put_element(slots: &[u32], queue: Deque, i: usize, out: &mut [u8], written: O
     if let Found::Number(number) = ends::get(slots, queue, i) {
         let free = output::room(out, written);
         return Output {
-            at: journals::put_word(out, free.at, number as usize),
+            at: lines::put_word(out, free.at, number as usize),
             open: free.open,
         };
     }
@@ -53,7 +53,7 @@ fn put_last(slots: &[u32], queue: Deque, out: &mut [u8], written: Output) -> Out
 {
     let free = output::room(out, written);
     let mut last = Output {
-        at: journals::put_end(out, free.at),
+        at: lines::put_end(out, free.at),
         open: free.open,
     };
     for i in 0..queue.len {
@@ -65,7 +65,7 @@ fn put_last(slots: &[u32], queue: Deque, out: &mut [u8], written: Output) -> Out
     }
     let free = output::room(out, last);
     Output {
-        at: journals::put_newline(out, free.at),
+        at: lines::put_newline(out, free.at),
         open: free.open,
     }
 }

@@ -34,7 +34,7 @@ fn play_one(
 {
     let done = journals::perform(slots, queue, operation);
     let free = room(out, written);
-    let at = journals::answer_line(out, free.at, operation, done);
+    let at = lines::answer_line(out, free.at, operation, done);
     let after = done.queue;
     let output = Output {
         at,
@@ -61,7 +61,7 @@ pub fn play_broken(queue: Deque, used: usize, out: &mut [u8], written: Output) -
     requires { ⌜ 105 ≤ length (now out) ⌝ }
 {
     let free = room(out, written);
-    let at = journals::broken_line(out, free.at, queue);
+    let at = lines::broken_line(out, free.at, queue);
     Played {
         queue,
         used,

@@ -1,0 +1,2 @@
+-- What a reply says in the terms of the rules.
+pub mod Replies

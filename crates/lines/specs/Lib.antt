@@ -1,0 +1,2 @@
+-- What it is for bytes to be put.
+pub mod Puts
