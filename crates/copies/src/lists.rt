@@ -1,9 +1,9 @@
 // Lists laid into the slots from a place on, past the last slot into the first ones. What fits before the end goes into the part of the slots that is
 // lent from the place on, and the rest into the slots from the first on.
-use super::leaves::copy_in;
-use super::leaves::copy_in_reversed;
-use super::leaves::fill;
 use places::WrappedIndex;
+use stretches::copy_in;
+use stretches::copy_in_reversed;
+use stretches::fill;
 ghost use mathlib.Core.Path.{_≡_};
 ghost use Prim.Native.Nat.{_≤_, _<_};
 ghost use mathlib.Core.List.{reverse};

@@ -1,6 +1,6 @@
 // Copies of a stretch of the ring that may run past the last slot and go on in the first.
-use super::stretch::copy;
 use places::WrappedIndex;
+use stretches::copy;
 ghost use mathlib.Core.Path.{_≡_};
 ghost use Prim.Native.Nat.{_+_, _≤_, _<_};
 ghost use lib.ListN.{length};

@@ -6,7 +6,7 @@ use native.Mathlib.Omega.{arith}
 use lib.ListN.{take, drop, length, length-take, length-drop, length-reverse}
 use lib.Seq.{length-take-le}
 use denote.Ref.{now}
-use Rattle.copies.proofs.Parts.{part-back, two-parts, cut}
+use Rattle.stretches.proofs.Parts.{part-back, two-parts, cut}
 use Rattle.rules.specs.Slots.{lay}
 use borrow.Author.Needs.{needs}
 use Rattle.copies.proofs.lists.copy_slice_reversed.Statement.{statement}

@@ -4,7 +4,7 @@ use Prim.Native.Nat.{ℕ, _+_, _-_}
 use native.Mathlib.Omega.{arith}
 use lib.ListN.{length, replicate, length-replicate, replicate-append-replicate}
 use denote.Ref.{now}
-use Rattle.copies.proofs.Parts.{part-back, two-parts}
+use Rattle.stretches.proofs.Parts.{part-back, two-parts}
 use Rattle.rules.specs.Slots.{lay}
 use borrow.Author.Needs.{needs}
 use Rattle.copies.proofs.lists.fill_slots.Statement.{statement}

@@ -2,7 +2,7 @@
 use native.Mathlib.Omega.{arith}
 use denote.Ref.{now}
 use mathlib.Core.Path.{refl}
-use Rattle.copies.proofs.Order.{way, on, over, up}
+use Rattle.stretches.proofs.Order.{way, on, over, up}
 use Rattle.copies.proofs.wraps.copy_dst_before_src.Statement.{statement}
 use Rattle.copies.proofs.wraps.copy_dst_before_src.Tie as tie
 

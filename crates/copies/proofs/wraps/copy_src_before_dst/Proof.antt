@@ -2,7 +2,7 @@
 use mathlib.Core.Path.{refl}
 use native.Mathlib.Omega.{arith}
 use denote.Ref.{now}
-use Rattle.copies.proofs.Order.{way, on, over, down}
+use Rattle.stretches.proofs.Order.{way, on, over, down}
 use Rattle.copies.proofs.wraps.copy_src_before_dst.Statement.{statement}
 use Rattle.copies.proofs.wraps.copy_src_before_dst.Tie as tie
 

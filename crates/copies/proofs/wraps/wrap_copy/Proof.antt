@@ -4,7 +4,7 @@ use Prim.Native.Nat.{ℕ}
 use native.Mathlib.Omega.{arith}
 use lib.ListN.{length}
 use denote.Ref.{now}
-use Rattle.copies.proofs.Order.{one-overlap}
+use Rattle.copies.proofs.Overlaps.{one-overlap}
 use Rattle.rules.proofs.Ring.{copy-none}
 use Rattle.rules.proofs.Slots.{lay-own}
 use Rattle.rules.specs.Places.{stepBack}

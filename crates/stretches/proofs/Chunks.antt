@@ -4,7 +4,7 @@ use mathlib.Core.Path.{_≡_, refl, subst, _∙_, sym}
 use Prim.Native.Nat.{ℕ, _<_, _+_, _≤_, _-_}
 use native.Mathlib.Omega.{arith}
 use lib.ListN.{length}
-use Rattle.copies.proofs.Order.{way, up, on, down}
+use Rattle.stretches.proofs.Order.{way, up, on, down}
 use Rattle.rules.proofs.Places.{wrapped-low, Wrap, wrap}
 use Rattle.rules.specs.Places.{place}
 use Rattle.rules.specs.Slots.{copied}

@@ -1,10 +1,10 @@
--- `copies::stretch::copy` meets its contract: which end comes first. Assumes nothing.
+-- `stretches::stretch::copy` meets its contract: which end comes first. Assumes nothing.
 use mathlib.Core.Path.{_∙_}
 use denote.Ref.{now}
 use Rattle.rules.specs.Slots.{copied}
 use borrow.Author.Needs.{needs}
-use Rattle.copies.proofs.stretch.copy.Statement.{statement}
-use Rattle.copies.proofs.stretch.copy.Tie as tie
+use Rattle.stretches.proofs.stretch.copy.Statement.{statement}
+use Rattle.stretches.proofs.stretch.copy.Tie as tie
 
 as-index-requires : tie.Need-as-index-requires
 as-index-requires c κs = search needs

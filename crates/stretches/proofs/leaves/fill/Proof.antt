@@ -1,13 +1,13 @@
--- `copies::leaves::fill` meets its contract. The invariant: the first i slots are v. Assumes nothing.
+-- `stretches::leaves::fill` meets its contract. The invariant: the first i slots are v. Assumes nothing.
 use mathlib.Core.Path.{sym}
 use Prim.Native.Nat.{_-_}
 use native.Mathlib.Omega.{arith}
 use lib.ListN.{replicate, length-replicate, getD-replicate}
 use denote.Ref.{now}
-use Rattle.copies.proofs.Fronts.{Laid, none, next, all}
+use Rattle.stretches.proofs.Fronts.{Laid, none, next, all}
 use borrow.Author.Needs.{needs}
-use Rattle.copies.proofs.leaves.fill.Statement.{statement}
-use Rattle.copies.proofs.leaves.fill.Tie as tie
+use Rattle.stretches.proofs.leaves.fill.Statement.{statement}
+use Rattle.stretches.proofs.leaves.fill.Tie as tie
 
 abbrev Inv-loop : tie.InvT-loop
 Inv-loop dst₀ n v i₀ dst i = Laid (replicate n v) dst₀ dst i

@@ -4,7 +4,6 @@ use mathlib.Core.Path.{_≡_, subst, sym, ap, _∙_}
 use Prim.Native.Nat.{ℕ, _<_, _+_, _-_, _≤_}
 use native.Mathlib.Omega.{arith}
 use lib.ListN.{length}
-use Rattle.copies.specs.Overlap.{OneOverlap}
 use Rattle.rules.proofs.Places.{Wrap, wrap, place-to}
 use Rattle.rules.proofs.Ring.{copy-up, copy-down}
 use Rattle.rules.proofs.Slots.{length-lay}
@@ -24,11 +23,6 @@ pub way : (cap s d : ℕ) → s < cap → d < cap → (stepBack cap d s < cap) �
 way cap s d hs hd =
     let short = wrap cap (d + (cap - s)) (omega arith) in
     (short .low, subst (Wrap cap (s + stepBack cap d s)) (place-to cap s hs d hd) (wrap cap (s + stepBack cap d s) (omega arith)))
-
--- where d is one of the n slots from s on, the two stretches do not meet again round the ring
-pub one-overlap : (cap s d n : ℕ) → s < cap → d < cap → OneOverlap cap s d n → (s ≡ d → ⊥) → stepBack cap d s < n → (0 < stepBack cap d s) × (stepBack cap d s + n ≤ cap)
-unfolding OneOverlap
-one-overlap cap s d n hs hd o other k = let w = way cap s d hs hd in omega arith
 
 -- y is the slot m after x
 reach : (cap x y m : ℕ) → x < cap → m ≤ cap → Wrap cap (x + m) y → y ≡ place cap x m

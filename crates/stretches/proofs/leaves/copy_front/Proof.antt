@@ -1,12 +1,12 @@
--- `copies::leaves::copy_front` meets its contract. The invariant: the first i elements are copied. Assumes nothing.
+-- `stretches::leaves::copy_front` meets its contract. The invariant: the first i elements are copied. Assumes nothing.
 use mathlib.Core.Path.{refl}
 use Prim.Native.Nat.{_-_}
 use lib.ListN.{length}
 use denote.Ref.{now}
-use Rattle.copies.proofs.Fronts.{Laid, none, next, all}
+use Rattle.stretches.proofs.Fronts.{Laid, none, next, all}
 use borrow.Author.Needs.{needs}
-use Rattle.copies.proofs.leaves.copy_front.Statement.{statement}
-use Rattle.copies.proofs.leaves.copy_front.Tie as tie
+use Rattle.stretches.proofs.leaves.copy_front.Statement.{statement}
+use Rattle.stretches.proofs.leaves.copy_front.Tie as tie
 
 abbrev Inv-loop : tie.InvT-loop
 Inv-loop dst₀ src i₀ dst i = Laid src dst₀ dst i

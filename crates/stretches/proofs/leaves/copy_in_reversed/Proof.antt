@@ -1,13 +1,13 @@
--- `copies::leaves::copy_in_reversed` meets its contract. The invariant: the last i elements are copied. Assumes nothing.
+-- `stretches::leaves::copy_in_reversed` meets its contract. The invariant: the last i elements are copied. Assumes nothing.
 use mathlib.Core.List.{reverse}
 use Prim.Native.Nat.{_-_}
 use native.Mathlib.Omega.{arith}
 use lib.ListN.{length, length-reverse}
 use denote.Ref.{now}
-use Rattle.copies.proofs.Fronts.{Laid, none, next, all, getD-reverse}
+use Rattle.stretches.proofs.Fronts.{Laid, none, next, all, getD-reverse}
 use borrow.Author.Needs.{needs}
-use Rattle.copies.proofs.leaves.copy_in_reversed.Statement.{statement}
-use Rattle.copies.proofs.leaves.copy_in_reversed.Tie as tie
+use Rattle.stretches.proofs.leaves.copy_in_reversed.Statement.{statement}
+use Rattle.stretches.proofs.leaves.copy_in_reversed.Tie as tie
 
 abbrev Inv-loop : tie.InvT-loop
 Inv-loop dst₀ src n i₀ dst i = Laid (reverse src) dst₀ dst i

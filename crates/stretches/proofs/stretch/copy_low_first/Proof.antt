@@ -1,16 +1,16 @@
--- `copies::stretch::copy_low_first` meets its contract. The invariant: the first i slots of the stretch are copied. Assumes nothing.
+-- `stretches::stretch::copy_low_first` meets its contract. The invariant: the first i slots of the stretch are copied. Assumes nothing.
 use mathlib.Core.Path.{_≡_, refl, sym, ap, _∙_}
 use Prim.Native.Nat.{_-_, _≤_}
 use native.Mathlib.Omega.{arith}
 use lib.ListN.{length}
 use denote.Ref.{now}
-use Rattle.copies.proofs.Chunks.{low-next}
+use Rattle.stretches.proofs.Chunks.{low-next}
 use Rattle.rules.proofs.Ring.{copy-none}
 use Rattle.rules.proofs.Slots.{length-lay}
 use Rattle.rules.specs.Slots.{copied}
 use borrow.Author.Needs.{needs}
-use Rattle.copies.proofs.stretch.copy_low_first.Statement.{statement}
-use Rattle.copies.proofs.stretch.copy_low_first.Tie as tie
+use Rattle.stretches.proofs.stretch.copy_low_first.Statement.{statement}
+use Rattle.stretches.proofs.stretch.copy_low_first.Tie as tie
 
 abbrev Inv-loop : tie.InvT-loop
 Inv-loop slots₀ src dst n i₀ slots i = (i ≤ n - 1) × ((length slots ≡ length slots₀) × (slots ≡ copied slots₀ src dst i))

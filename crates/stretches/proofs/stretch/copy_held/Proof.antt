@@ -1,10 +1,10 @@
--- `copies::stretch::copy_held` meets its contract. Assumes nothing.
+-- `stretches::stretch::copy_held` meets its contract. Assumes nothing.
 use mathlib.Core.Path.{refl}
 use denote.Ref.{now}
-use Rattle.copies.proofs.Parts.{held-back}
+use Rattle.stretches.proofs.Parts.{held-back}
 use borrow.Author.Needs.{needs}
-use Rattle.copies.proofs.stretch.copy_held.Statement.{statement}
-use Rattle.copies.proofs.stretch.copy_held.Tie as tie
+use Rattle.stretches.proofs.stretch.copy_held.Statement.{statement}
+use Rattle.stretches.proofs.stretch.copy_held.Tie as tie
 
 add-end : tie.Need-add-end
 add-end c = search needs

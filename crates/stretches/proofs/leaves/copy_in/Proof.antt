@@ -1,11 +1,11 @@
--- `copies::leaves::copy_in` meets its contract: what was held is what was lent. Assumes nothing.
+-- `stretches::leaves::copy_in` meets its contract: what was held is what was lent. Assumes nothing.
 use mathlib.Core.Path.{_∙_, ap, refl}
 use denote.Ref.{now}
-use Rattle.copies.proofs.Parts.{held}
+use Rattle.stretches.proofs.Parts.{held}
 use Rattle.rules.specs.Slots.{lay}
 use borrow.Author.Needs.{needs}
-use Rattle.copies.proofs.leaves.copy_in.Statement.{statement}
-use Rattle.copies.proofs.leaves.copy_in.Tie as tie
+use Rattle.stretches.proofs.leaves.copy_in.Statement.{statement}
+use Rattle.stretches.proofs.leaves.copy_in.Tie as tie
 
 slice-aggregate-copy-front : tie.Need-slice-aggregate-copy-front
 slice-aggregate-copy-front c = search needs

@@ -1,0 +1,5 @@
+-- `Parts` and `Order` are what the copies in the ring cite: lists laid in lent parts, and a copy in two stretches.
+mod Fronts
+pub mod Parts
+pub mod Order
+mod Chunks
