@@ -13,8 +13,8 @@ use Rattle.rules.proofs.Ring.{write-append}
 use Rattle.rules.proofs.Slots.{length-lay}
 use Rattle.rules.specs.Places.{place}
 use Rattle.rules.specs.Records.{Rec, held}
-use Rattle.rules.specs.Refusals.{onQueue, inRange}
-use Rattle.rules.specs.Runs.{frontRun, backRun, onRange}
+use Rattle.rules.specs.Refusals.{onQueue, inRange, onRange}
+use Rattle.rules.specs.Runs.{frontRun, backRun}
 use Rattle.rules.specs.Slots.{lay}
 use Rattle.rules.specs.Tests.{ask}
 use Rattle.runs.proofs.Whole.{runs-range}

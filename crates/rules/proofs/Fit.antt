@@ -9,10 +9,10 @@ use Rattle.rules.proofs.Held.{length-held, stepped-good, laid}
 use Rattle.rules.proofs.Lawful.{Lawful}
 use Rattle.rules.proofs.Refusals.{Good, record-true, queue-ok}
 use Rattle.rules.proofs.Slots.{length-listOf}
-use Rattle.rules.specs.Drains.{Drain, during, wholeList, spread, onOpening, opened, fromFront, fromBack, closedRec, keptList}
+use Rattle.rules.specs.Drains.{Drain, during, wholeList, spread, opened, fromFront, fromBack, closedRec, keptList}
 use Rattle.rules.specs.Outcome.{Held, shut, drawn, refusal, recAfter}
 use Rattle.rules.specs.Records.{Rec, held, stepped}
-use Rattle.rules.specs.Refusals.{mostSlots}
+use Rattle.rules.specs.Refusals.{mostSlots, onRange}
 use Rattle.rules.specs.Rule.{Rule, after}
 use Rattle.rules.specs.Sequences.{stands}
 use Rattle.rules.specs.Slots.{listOf, lay}
@@ -38,7 +38,7 @@ pub length-whole : (b : List ℕ) (d : Drain) → length (wholeList b d) ≡ spr
 unfolding wholeList
 length-whole b d = length-listOf b (d .head) (spread d)
 
-pub open-whole : (b : List ℕ) (r : Rec) (s e : ℕ) → onOpening (length b) r s e ≡ 0 → wholeList b (opened r s e) ≡ held b r
+pub open-whole : (b : List ℕ) (r : Rec) (s e : ℕ) → onRange (length b) r s e ≡ 0 → wholeList b (opened r s e) ≡ held b r
 unfolding wholeList opened held
 open-whole b r s e z = ap (λ (k : ℕ). listOf b (r .head) k) (open-spread (length b) r s e z)
 

@@ -16,12 +16,12 @@ use Rattle.rules.proofs.Slots.{length-lay}
 use Rattle.rules.proofs.Tests.{by-refusal}
 use Rattle.rules.specs.Calls.{rule}
 use Rattle.rules.specs.Count.{tally, asList}
-use Rattle.rules.specs.Drains.{onOpening, opened, Drain, wholeList, during, fromFront, fromBack, closedRec, onDrain}
+use Rattle.rules.specs.Drains.{opened, Drain, wholeList, during, fromFront, fromBack, closedRec, onDrain}
 use Rattle.rules.specs.Images.{laidOut, howMany, elementsIn}
 use Rattle.rules.specs.Makes.{madeWith, noneMade, fresh, readImage}
 use Rattle.rules.specs.Outcome.{Held, Outcome, unchanged, shut, refusal, accepted, recAfter, doRule, drawn, doOpen, handsOver, nextOf, nextBackOf, closed, doNext, doNextBack, doClose}
 use Rattle.rules.specs.Records.{Rec, held, newRec}
-use Rattle.rules.specs.Refusals.{onSlots, onLayout, room, mostSlots}
+use Rattle.rules.specs.Refusals.{onSlots, onLayout, room, mostSlots, onRange}
 use Rattle.rules.specs.Rule.{Rule}
 use Rattle.rules.specs.Sequences.{stands, making, madeOr, Do, doOne, op, freshly, reading, opening, next, nextBack, close}
 use Rattle.rules.specs.Slots.{lay}
@@ -90,7 +90,7 @@ module _ (b : List ℕ) (r : Rec) (g : Good (length b) r) where
   keeps-reading s = made-or-not (onSlots (length b) (onLayout (laidOut s) (room (length b) (howMany s)))) (elementsIn s)
       (λ e. rw (length-elements s) (reading-fits (length b) s e))
 
-  open-keeps : (s e : ℕ) → onOpening (length b) r s e ≡ 0 → Keeps b (shut r) (unchanged b (drawn (opened r s e)) 0)
+  open-keeps : (s e : ℕ) → onRange (length b) r s e ≡ 0 → Keeps b (shut r) (unchanged b (drawn (opened r s e)) 0)
   unfolding unchanged
   open-keeps s e z =
       let d = opened-good (length b) r s e z in
@@ -102,7 +102,7 @@ module _ (b : List ℕ) (r : Rec) (g : Good (length b) r) where
 
   keeps-open : (s e : ℕ) → Keeps b (shut r) (doOpen b r s e)
   unfolding doOpen
-  keeps-open s e = by-refusal (onOpening (length b) r s e) (Keeps b (shut r)) (open-keeps s e) (keeps-same b (shut r) _ (fit-shut g))
+  keeps-open s e = by-refusal (onRange (length b) r s e) (Keeps b (shut r)) (open-keeps s e) (keeps-same b (shut r) _ (fit-shut g))
 
 module _ (b : List ℕ) (d : Drain) (few : length b ≤ mostSlots) (g : GoodDrain (length b) d) where
   -- the drain, now d′, has handed v over

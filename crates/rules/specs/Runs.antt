@@ -6,7 +6,7 @@ use lib.ListN.{length, take, drop}
 use Rattle.rules.specs.Looks.{Look, looked}
 use Rattle.rules.specs.Places.{place}
 use Rattle.rules.specs.Records.{Rec}
-use Rattle.rules.specs.Refusals.{onQueue, inRange}
+use Rattle.rules.specs.Refusals.{onRange}
 use Rattle.rules.specs.Tests.{whether, unless}
 
 -- from a to before e
@@ -31,10 +31,6 @@ runs cap head s e =
     let w = place cap head s in
     whether (eqb s e) (twoRuns (fromTo 0 0) (fromTo 0 0))
     (whether (leb (e - s) (cap - w)) (twoRuns (fromTo w (w + (e - s))) (fromTo 0 0)) (twoRuns (fromTo w cap) (fromTo 0 (e - s - (cap - w)))))
-
--- what a range of positions asks
-unfoldable pub onRange : ℕ → Rec → ℕ → ℕ → ℕ
-onRange cap r s e = onQueue cap r (inRange (r .len) s e 0)
 
 -- the call for the two ranges gives the number
 unfoldable pub lookRuns : List ℕ → Rec → ℕ → ℕ → Look TwoRuns

@@ -8,8 +8,8 @@ use Rattle.queue.specs.Answers.{numberIn, numberOf}
 use Rattle.rules.proofs.Refusals.{queue-go}
 use Rattle.rules.specs.Looks.{refuses, sees}
 use Rattle.rules.specs.Records.{Rec}
-use Rattle.rules.specs.Refusals.{onQueue, inRange}
-use Rattle.rules.specs.Runs.{lookRuns, onRange, TwoRuns, runs}
+use Rattle.rules.specs.Refusals.{onQueue, inRange, onRange}
+use Rattle.rules.specs.Runs.{lookRuns, TwoRuns, runs}
 use Rattle.rules.specs.Tests.{ask}
 use Rattle.runs.proofs.Asks.{asks-first, asks-refused, asks-seen}
 use Rattle.queue.specs.declared.Checked.{Checked}

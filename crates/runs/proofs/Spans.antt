@@ -10,9 +10,10 @@ use Rattle.rules.proofs.Tests.{by-refusal, unless-go}
 use Rattle.rules.specs.Looks.{sees, refuses}
 use Rattle.rules.specs.Places.{place}
 use Rattle.rules.specs.Records.{Rec}
-use Rattle.rules.specs.Runs.{Span, TwoRuns, runsOr, onRange, lookRuns}
+use Rattle.rules.specs.Runs.{Span, TwoRuns, runsOr, lookRuns}
 use Rattle.runs.proofs.Asks.{seen-is, refused-is}
 use Rattle.runs.proofs.Cases.{none-of, by-runs}
+use Rattle.rules.specs.Refusals.{onRange}
 
 -- the span is a part of c slots
 pub record Within (c : ℕ) (p : Span) : Type 0 where

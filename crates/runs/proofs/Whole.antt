@@ -1,36 +1,26 @@
 -- The front run and behind it the back run are the range. Assumes nothing.
-use mathlib.Core.List.{List, _∷_, _++_, append-nil}
+use mathlib.Core.List.{List, _++_, append-nil}
 use mathlib.Core.Logic.{_≢_, ⊎-elim}
 use mathlib.Core.Path.{_≡_, refl, _∙_, ap, sym}
-use Prim.Native.Nat.{ℕ, _+_, _≤_, zero, suc, _-_, _<_}
+use Prim.Native.Nat.{ℕ, _+_, _≤_, _-_, _<_}
 use native.Mathlib.Nat.{sub-zero}
-use native.Mathlib.Numerals.{add-one}
 use native.Mathlib.Omega.{arith}
 use borrow.Author.Tests.{le-leb}
-use lib.ListN.{length, take, drop, getD}
-use lib.Seq.{drop-cons, take-all}
+use lib.ListN.{length, take, drop}
+use lib.Seq.{take-all}
 use Rattle.rules.proofs.Held.{length-held}
-use Rattle.rules.proofs.Places.{wrapped-low, place-low, wrapped-high}
+use Rattle.rules.proofs.Places.{place-low, wrapped-high}
 use Rattle.rules.proofs.Refusals.{queue-ok, range-ok, queue-go}
-use Rattle.rules.proofs.Ring.{read-add}
+use Rattle.rules.proofs.Ring.{read-add, read-straight}
 use Rattle.rules.proofs.Slots.{listOf-none, listOf-drop, listOf-take}
 use Rattle.rules.proofs.Tests.{unless-go, lt-or-ge}
 use Rattle.rules.specs.Places.{place}
 use Rattle.rules.specs.Records.{Rec, held}
-use Rattle.rules.specs.Refusals.{onQueue, inRange}
-use Rattle.rules.specs.Runs.{TwoRuns, part, runs, onRange, frontRun, backRun, runsOr}
+use Rattle.rules.specs.Refusals.{onQueue, inRange, onRange}
+use Rattle.rules.specs.Runs.{TwoRuns, part, runs, frontRun, backRun, runsOr}
 use Rattle.rules.specs.Slots.{read}
 use Rattle.rules.specs.Tests.{ask}
 use Rattle.runs.proofs.Cases.{by-runs}
-
--- where the ring does not end on the way, a stretch is a part of the slots
-read-straight : (cap : ℕ) (b : List ℕ) (h n : ℕ) → cap ≡ length b → h + n ≤ cap → read cap b h n ≡ take n (drop h b)
-unfolding read
-read-straight cap b h zero c q = refl
-read-straight cap b h (suc zero) c q = rw (drop-cons b h 0 (omega arith))
-read-straight cap b h (suc (suc n)) c q =
-    let next : place cap h 1 ≡ suc h = wrapped-low cap (h + 1) (omega arith) ∙ add-one h in
-    rw (next, drop-cons b h 0 (omega arith)) (ap (λ (l : List ℕ). getD b h 0 ∷ l) (read-straight cap b (suc h) (suc n) c (omega arith)))
 
 -- one run behind the other
 abbrev joined : List ℕ → TwoRuns → List ℕ
