@@ -1,5 +1,6 @@
 -- `copies::wraps::copy_dst_before_src` meets its contract: what is copied later was not overwritten before. Assumes nothing.
 use native.Mathlib.Omega.{arith}
+use borrow.Author.Needs.{needs}
 use denote.Ref.{now}
 use mathlib.Core.Path.{refl}
 use Rattle.stretches.proofs.Order.{way, on, over, up}
@@ -7,13 +8,13 @@ use Rattle.copies.proofs.wraps.copy_dst_before_src.Statement.{statement
 use Rattle.copies.proofs.wraps.copy_dst_before_src.Tie as tie
 
 as-index-requires : tie.Need-as-index-requires
-as-index-requires c κs = omega arith
+as-index-requires c κs = search needs
 
 sub-src-pre-wrap-len : tie.Need-sub-src-pre-wrap-len
 sub-src-pre-wrap-len c = omega arith
 
 as-index-requires-2 : tie.Need-as-index-requires-2
-as-index-requires-2 c κs = omega arith
+as-index-requires-2 c κs = search needs
 
 sub-dst-pre-wrap-len : tie.Need-sub-dst-pre-wrap-len
 sub-dst-pre-wrap-len c = omega arith
@@ -28,7 +29,7 @@ add-requires : tie.Need-add-requires
 add-requires c κs = omega arith
 
 zero-requires : tie.Need-zero-requires
-zero-requires c κs = omega arith
+zero-requires c κs = search needs
 
 sub-copy : tie.Need-sub-copy
 sub-copy c = omega arith
@@ -40,7 +41,7 @@ copy-requires-4 : tie.Need-copy-requires-4
 copy-requires-4 c κs = omega arith
 
 zero-requires-2 : tie.Need-zero-requires-2
-zero-requires-2 c κs = omega arith
+zero-requires-2 c κs = search needs
 
 add-requires-2 : tie.Need-add-requires-2
 add-requires-2 c κs = omega arith
@@ -58,7 +59,7 @@ copy-requires-6 : tie.Need-copy-requires-6
 copy-requires-6 c κs = let w = way _ _ _ (c .before .before .before .before .before .before .pre .0 .0) (c .before .before .before .before .before .before .pre .0 .1) in omega arith
 
 zero-requires-3 : tie.Need-zero-requires-3
-zero-requires-3 c κs = omega arith
+zero-requires-3 c κs = search needs
 
 add-requires-3 : tie.Need-add-requires-3
 add-requires-3 c κs = omega arith
@@ -67,10 +68,10 @@ copy-requires-7 : tie.Need-copy-requires-7
 copy-requires-7 c κs = let w = way _ _ _ (c .before .before .before .before .before .before .before .before .before .before .before .before .pre .0 .0) (c .before .before .before .before .before .before .before .before .before .before .before .before .pre .0 .1) in omega arith
 
 from-arbitrary-number-requires : tie.Need-from-arbitrary-number-requires
-from-arbitrary-number-requires c κs = omega arith
+from-arbitrary-number-requires c κs = search needs
 
 zero-requires-4 : tie.Need-zero-requires-4
-zero-requires-4 c κs = omega arith
+zero-requires-4 c κs = search needs
 
 sub-copy-3 : tie.Need-sub-copy-3
 sub-copy-3 c = omega arith
@@ -79,13 +80,13 @@ copy-requires-8 : tie.Need-copy-requires-8
 copy-requires-8 c κs = omega arith
 
 same-length : tie.Need-same-length
-same-length c = omega arith
+same-length c = search needs
 
 returns : tie.Need-returns
 returns c = c .before .before .copy .ensures
 
 same-length-2 : tie.Need-same-length-2
-same-length-2 c = omega arith
+same-length-2 c = search needs
 
 returns-2 : tie.Need-returns-2
 returns-2 c =
@@ -94,7 +95,7 @@ returns-2 c =
     up (now (st .args .slots)) _ _ _ (st .pre .0 .0) (w .0) (w .1) _ _ _ _ _ _ (st .args .len) (c .before .before .before .before .before .before .before .before .copy2 .ensures) (c .before .before .copy3 .ensures) (on (omega arith)) (over (omega arith)) (omega arith) (st .pre .1)
 
 same-length-3 : tie.Need-same-length-3
-same-length-3 c = omega arith
+same-length-3 c = search needs
 
 returns-3 : tie.Need-returns-3
 returns-3 c =
@@ -103,7 +104,7 @@ returns-3 c =
     up (now (st .args .slots)) _ _ _ (st .pre .0 .0) (w .0) (w .1) _ _ _ _ _ _ (st .args .len) (c .before .before .before .before .before .before .before .before .copy4 .ensures) (c .before .before .copy5 .ensures) (over (omega arith)) (on (omega arith)) (omega arith) (st .pre .1)
 
 same-length-4 : tie.Need-same-length-4
-same-length-4 c = omega arith
+same-length-4 c = search needs
 
 returns-4 : tie.Need-returns-4
 returns-4 c =

@@ -1,19 +1,20 @@
 -- `copies::wraps::copy_src_before_dst` meets its contract: what is copied later was not overwritten before. Assumes nothing.
 use mathlib.Core.Path.{refl}
 use native.Mathlib.Omega.{arith}
+use borrow.Author.Needs.{needs}
 use denote.Ref.{now}
 use Rattle.stretches.proofs.Order.{way, on, over, down}
 use Rattle.copies.proofs.wraps.copy_src_before_dst.Statement.{statement}
 use Rattle.copies.proofs.wraps.copy_src_before_dst.Tie as tie
 
 as-index-requires : tie.Need-as-index-requires
-as-index-requires c κs = omega arith
+as-index-requires c κs = search needs
 
 sub-src-pre-wrap-len : tie.Need-sub-src-pre-wrap-len
 sub-src-pre-wrap-len c = omega arith
 
 as-index-requires-2 : tie.Need-as-index-requires-2
-as-index-requires-2 c κs = omega arith
+as-index-requires-2 c κs = search needs
 
 sub-dst-pre-wrap-len : tie.Need-sub-dst-pre-wrap-len
 sub-dst-pre-wrap-len c = omega arith
@@ -25,7 +26,7 @@ add-requires : tie.Need-add-requires
 add-requires c κs = omega arith
 
 zero-requires : tie.Need-zero-requires
-zero-requires c κs = omega arith
+zero-requires c κs = search needs
 
 sub-copy : tie.Need-sub-copy
 sub-copy c = omega arith
@@ -37,7 +38,7 @@ copy-requires-3 : tie.Need-copy-requires-3
 copy-requires-3 c κs = omega arith
 
 zero-requires-2 : tie.Need-zero-requires-2
-zero-requires-2 c κs = omega arith
+zero-requires-2 c κs = search needs
 
 add-requires-2 : tie.Need-add-requires-2
 add-requires-2 c κs = omega arith
@@ -55,10 +56,10 @@ sub-delta : tie.Need-sub-delta
 sub-delta c = let w = way _ _ _ (c .before .before .before .before .before .pre .0 .0) (c .before .before .before .before .before .pre .0 .1) in omega arith
 
 zero-requires-3 : tie.Need-zero-requires-3
-zero-requires-3 c κs = omega arith
+zero-requires-3 c κs = search needs
 
 from-arbitrary-number-requires : tie.Need-from-arbitrary-number-requires
-from-arbitrary-number-requires c κs = omega arith
+from-arbitrary-number-requires c κs = search needs
 
 sub-copy-3 : tie.Need-sub-copy-3
 sub-copy-3 c = omega arith
@@ -70,10 +71,10 @@ sub-from-arbitrary-number : tie.Need-sub-from-arbitrary-number
 sub-from-arbitrary-number c = omega arith
 
 from-arbitrary-number-requires-2 : tie.Need-from-arbitrary-number-requires-2
-from-arbitrary-number-requires-2 c κs = omega arith
+from-arbitrary-number-requires-2 c κs = search needs
 
 zero-requires-4 : tie.Need-zero-requires-4
-zero-requires-4 c κs = omega arith
+zero-requires-4 c κs = search needs
 
 copy-requires-7 : tie.Need-copy-requires-7
 copy-requires-7 c κs = let w = way _ _ _ (c .before .before .before .before .before .before .before .before .before .before .before .before .before .before .pre .0 .0) (c .before .before .before .before .before .before .before .before .before .before .before .before .before .before .pre .0 .1) in omega arith
@@ -82,13 +83,13 @@ copy-requires-8 : tie.Need-copy-requires-8
 copy-requires-8 c κs = let w = way _ _ _ (c .before .before .before .before .before .before .before .before .before .before .before .before .before .before .before .before .before .before .pre .0 .0) (c .before .before .before .before .before .before .before .before .before .before .before .before .before .before .before .before .before .before .pre .0 .1) in omega arith
 
 same-length : tie.Need-same-length
-same-length c = omega arith
+same-length c = search needs
 
 returns : tie.Need-returns
 returns c = c .before .before .copy .ensures
 
 same-length-2 : tie.Need-same-length-2
-same-length-2 c = omega arith
+same-length-2 c = search needs
 
 returns-2 : tie.Need-returns-2
 returns-2 c =
@@ -97,7 +98,7 @@ returns-2 c =
     down (now (st .args .slots)) _ _ _ (st .pre .0 .0) (w .0) (w .1) _ _ _ _ _ _ (st .args .len) (c .before .before .before .before .before .before .copy2 .ensures) (c .before .before .copy3 .ensures) (on (omega arith)) (over (omega arith)) (omega arith) (st .pre .1 .1)
 
 same-length-3 : tie.Need-same-length-3
-same-length-3 c = omega arith
+same-length-3 c = search needs
 
 returns-3 : tie.Need-returns-3
 returns-3 c =
@@ -106,7 +107,7 @@ returns-3 c =
     down (now (st .args .slots)) _ _ _ (st .pre .0 .0) (w .0) (w .1) _ _ _ _ _ _ (st .args .len) (c .before .before .before .before .before .before .copy4 .ensures) (c .before .before .copy5 .ensures) (over (omega arith)) (on (omega arith)) (omega arith) (st .pre .1 .1)
 
 same-length-4 : tie.Need-same-length-4
-same-length-4 c = omega arith
+same-length-4 c = search needs
 
 returns-4 : tie.Need-returns-4
 returns-4 c =
