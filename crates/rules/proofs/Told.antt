@@ -2,14 +2,14 @@
 use mathlib.Core.List.{List}
 use mathlib.Core.Logic.{_≢_}
 use mathlib.Core.Option.{none, Option}
-use mathlib.Core.Path.{_≡_, _∙_, sym, ap}
+use mathlib.Core.Path.{_≡_, _∙_, sym, ap, refl}
 use Prim.Native.Nat.{ℕ}
 use lib.ListN.{length}
 use Rattle.rules.proofs.Held.{stepped-same}
 use Rattle.rules.proofs.Refusals.{queue-stop, queue-go, queue-ok}
 use Rattle.rules.proofs.Slots.{lay-own}
-use Rattle.rules.proofs.Tests.{unless-stop}
-use Rattle.rules.specs.Outcome.{refusal, shut, told, doRule, unchanged, accepted, recAfter}
+use Rattle.rules.proofs.Tests.{unless-stop, by-refusals}
+use Rattle.rules.specs.Outcome.{Outcome, refusal, shut, told, doRule, unchanged, accepted, recAfter}
 use Rattle.rules.specs.Records.{Rec, stepped, held}
 use Rattle.rules.specs.Refusals.{onQueue}
 use Rattle.rules.specs.Rule.{Rule, after}
@@ -49,3 +49,13 @@ module _ (b : List ℕ) (r : Rec) (R : Rule) where
     accepts-same same-head same-len none-moved none-handed same-list =
         accepts 0 (r .head) (r .len) r none b (sym (stepped-same (length b) r (queue-ok (length b) r 0 first .0))) (sym same-head) (sym same-len) (sym none-moved) (sym none-handed)
         (sym (ap (lay b (r .head)) same-list ∙ lay-own b (r .head) (r .len)))
+
+-- two rules that say the same of a queue answer alike and leave the same slots
+pub alike : (b : List ℕ) (r : Rec) (R S : Rule) → R .own (length b) (r .len) ≡ S .own (length b) (r .len)
+    → R .head (length b) (r .head) (r .len) (held b r) ≡ S .head (length b) (r .head) (r .len) (held b r) → R .len (r .len) (held b r) ≡ S .len (r .len) (held b r)
+    → R .moved (r .len) (held b r) ≡ S .moved (r .len) (held b r) → R .handed (held b r) ≡ S .handed (held b r) → after R (held b r) ≡ after S (held b r)
+    → told (doRule b r R) ≡ told (doRule b r S)
+unfolding doRule refusal accepted recAfter
+alike b r R S own head len moved handed list =
+    by-refusals (refusal (length b) r R) (refusal (length b) r S) (ap (onQueue (length b) r) own) (λ (o p : Outcome). told o ≡ told p) (unchanged b (shut r)) (unchanged b (shut r))
+    (λ z. rw (head, len, moved, handed, list)) (λ n. refl)

@@ -8,14 +8,13 @@ use native.Mathlib.Omega.{arith}
 use borrow.Author.Tests.{le-ltb, lt-ltb, eq-eqb, ne-eqb}
 use lib.ListN.{length, getD, set}
 use lib.Seq.{set-set, set-getD}
-use Rattle.ends.proofs.Alike.{alike}
 use Rattle.swaps.proofs.Stores.{both-stored, first-out, last-out}
 use Rattle.queue.proofs.Checks.{fine}
 use Rattle.queue.specs.Answers.{numberOf}
 use Rattle.rules.proofs.Held.{stepped-same}
 use Rattle.rules.proofs.Places.{place-zero}
 use Rattle.rules.proofs.Slots.{getD-listOf, handed-past, length-listOf, handed-at}
-use Rattle.rules.proofs.Told.{own-refused, accepts-same, accepts}
+use Rattle.rules.proofs.Told.{own-refused, accepts-same, accepts, alike}
 use Rattle.rules.specs.Ends.{exchange, swapRemoveFront, swapRemoveBack, popFront, popBack}
 use Rattle.rules.specs.Outcome.{shut, told, doRule}
 use Rattle.rules.specs.Places.{place}

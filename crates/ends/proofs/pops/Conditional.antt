@@ -9,11 +9,10 @@ use native.Mathlib.Omega.{arith}
 use borrow.Author.Tests.{ne-eqb}
 use lib.Dec.{eqb}
 use lib.ListN.{length, getElem?}
-use Rattle.ends.proofs.Alike.{alike}
 use Rattle.ends.specs.Conditional.{onlyIf}
 use Rattle.queue.proofs.Numbers.{some-number}
 use Rattle.queue.specs.Answers.{recOf, ofHanded}
-use Rattle.rules.proofs.Told.{accepts-same, first-refused, accepts}
+use Rattle.rules.proofs.Told.{accepts-same, first-refused, accepts, alike}
 use Rattle.rules.specs.Conditions.{Test, meets, passes}
 use Rattle.rules.specs.Ends.{popFront, popFrontIf, popBack, popBackIf}
 use Rattle.rules.specs.Outcome.{told, doRule, shut, Answer}
