@@ -9,8 +9,9 @@ use crate::records::play;
 use crate::records::play_broken;
 use queue::Deque;
 use queue::Made;
+ghost use mathlib.Core.Bool.{false};
 ghost use mathlib.Core.Path.{_≡_};
-ghost use Prim.Native.Nat.{_≤_};
+ghost use Prim.Native.Nat.{_<_, _≤_};
 ghost use lib.ListN.{length};
 
 // How many bytes of the limit were not read, and whether everything was written.
@@ -92,6 +93,8 @@ fn run(slots: &mut [u32], begin: Deque, input: &mut [u8], out: &mut [u8], limit:
 // Too many slots and a buffer that is too short for a record (12 bytes) or a line (105) are refused: nothing is read or written.
 pub fn replay(slots: &mut [u32], input: &mut [u8], out: &mut [u8], limit: u64) -> Replayed
     ensures { λ r. ⌜ r .unread ≤ limit ⌝ }
+    ensures { λ r. ⌜ (length (now (input .entry)) < 12 → r .open ≡ false) ⌝ }
+    ensures { λ r. ⌜ (length (now (out .entry)) < 105 → r .open ≡ false) ⌝ }
 {
     let refused = Replayed {
         unread: limit,
