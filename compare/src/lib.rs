@@ -3,6 +3,7 @@
 #![feature(deque_extend_front, vec_deque_truncate_front, vec_deque_iter_as_slices, iter_is_partitioned)]
 
 pub mod boundary;
+pub mod bundle;
 pub mod calls;
 pub mod differences;
 pub mod exhaustive;

@@ -1,7 +1,7 @@
 //! The commands of `compare`; README.md says what each is for.
 
 use compare::run::{self, Named};
-use compare::{differences, journal, journals, model_replay, oracle, rust};
+use compare::{bundle, differences, journal, journals, model_replay, oracle, rust};
 use std::fs;
 use std::io::{Read, Write, stdin, stdout};
 use std::path::Path;
@@ -14,6 +14,7 @@ const USAGE: &str = "usage: compare differences
        compare replay < JOURNAL
        compare model-replay < JOURNAL
        compare journals DIR
+       compare bundle STDIN STDOUT
        compare run [--trial CMD] [--replay CMD]";
 
 fn main() -> ExitCode {
@@ -31,6 +32,7 @@ fn main() -> ExitCode {
         ["replay"] => write_out(journal::replay(&input()).as_bytes()),
         ["model-replay"] => write_out(model_replay::replay(&input()).as_bytes()),
         ["journals", dir] => write_journals(dir),
+        ["bundle", input, output] => write_bundle(input, output),
         ["run", "--trial", trial] => run::run_trial(trial),
         ["run", "--replay", replay] => run::run_replay(replay),
         ["run", "--trial", trial, "--replay", replay] => run::run_trial(trial) & run::run_replay(replay),
@@ -107,4 +109,20 @@ fn write_journals(dir: &str) -> bool {
     }
     println!("{} journals, {records} records, {wrong} differences between the two replays", all.len());
     wrong == 0
+}
+
+/// Writes the input and the output of the program that runs many journals, and tells at which line of the output each journal begins.
+fn write_bundle(input: &str, output: &str) -> bool {
+    let bundle = bundle::bundle();
+    fs::write(input, &bundle.input).expect("the input can be written");
+    fs::write(output, &bundle.output).expect("the output can be written");
+    bundle.contents.iter().for_each(|(name, line)| println!("{line:>8} {name}"));
+    let (journals, lines) = (bundle.contents.len(), bundle.output.lines().count());
+    println!(
+        "{journals} journals, {} records, {} bytes in, {} bytes out",
+        lines - journals,
+        bundle.input.len(),
+        bundle.output.len()
+    );
+    true
 }

@@ -1,10 +1,10 @@
--- `replay::put_last` is safe and ends: the positions from 0 to len. Assumes nothing.
+-- `replays::last::put_last` is safe and ends: the positions from 0 to len. Assumes nothing.
 use Prim.Native.Nat.{_-_, _≤_}
 use mathlib.Core.Path.{_≡_}
 use lib.ListN.{length}
 use borrow.Author.Needs.{needs}
-use Rattle.replay.proofs.put_last.Statement.{statement}
-use Rattle.replay.proofs.put_last.Tie as tie
+use Rattle.replays.proofs.last.put_last.Statement.{statement}
+use Rattle.replays.proofs.last.put_last.Tie as tie
 
 abbrev Inv-loop : tie.InvT-loop
 Inv-loop slots queue out₀ last₀ i₀ i-end out last i = (i ≤ i-end) × (length out ≡ length out₀)

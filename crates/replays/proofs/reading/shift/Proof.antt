@@ -1,10 +1,10 @@
--- `replay::shift` is safe and ends. Assumes nothing.
+-- `replays::reading::shift` is safe and ends. Assumes nothing.
 use Prim.Native.Nat.{_-_, _≤_}
 use mathlib.Core.Path.{_≡_}
 use lib.ListN.{length}
 use borrow.Author.Needs.{needs}
-use Rattle.replay.proofs.shift.Statement.{statement}
-use Rattle.replay.proofs.shift.Tie as tie
+use Rattle.replays.proofs.reading.shift.Statement.{statement}
+use Rattle.replays.proofs.reading.shift.Tie as tie
 
 abbrev Inv-loop : tie.InvT-loop
 Inv-loop input₀ from end n i₀ input i = (i ≤ n) × (length input ≡ length input₀)

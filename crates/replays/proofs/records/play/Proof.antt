@@ -1,10 +1,10 @@
--- `replay::records::play` is safe and ends: a turn for each byte at most. Assumes nothing.
+-- `replays::records::play` is safe and ends: a turn for each byte at most. Assumes nothing.
 use Prim.Native.Nat.{_-_, _≤_}
 use mathlib.Core.Path.{_≡_}
 use lib.ListN.{length}
 use borrow.Author.Needs.{needs}
-use Rattle.replay.proofs.records.play.Statement.{statement}
-use Rattle.replay.proofs.records.play.Tie as tie
+use Rattle.replays.proofs.records.play.Statement.{statement}
+use Rattle.replays.proofs.records.play.Tie as tie
 
 abbrev Inv-loop : tie.InvT-loop
 Inv-loop bytes slots₀ out₀ played₀ counter₀ end slots out played counter = (counter ≤ end) × (length slots ≡ length slots₀) × (length out ≡ length out₀)
