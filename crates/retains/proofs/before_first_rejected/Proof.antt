@@ -1,21 +1,12 @@
 -- `retains::before_first_rejected` meets its contract: one law for each return. Assumes nothing.
-use mathlib.Core.Path.{_≡_}
-use Prim.Native.Nat.{_-_, _+_}
 use native.Mathlib.Omega.{arith}
 use borrow.Author.Needs.{needs}
 use denote.Ref.{now}
-use lib.ListN.{length}
 use Rattle.conditions.specs.Tests.{testOf}
-use Rattle.retains.proofs.Stages.{leading-both, leading-straight, leading-front, leading-upto}
-use Rattle.retains.specs.Leading.{leading}
+use Rattle.retains.proofs.Stages.{leading-straight, leading-front, leading-both, leading-upto}
 use Rattle.rules.specs.Conditions.{meets}
-use Rattle.rules.specs.Slots.{listOf}
 use Rattle.retains.proofs.before_first_rejected.Statement.{statement}
 use Rattle.retains.proofs.before_first_rejected.Tie as tie
-
--- the front run passed whole
-whole : (c : tie.After-leading-in3) → length (now (c .before .before .before .before .before .before .before .before .args .slots)) - c .before .before .before .before .before .before .as-index .result + c .leading-in3 .result ≡ leading (meets (testOf (c .before .before .before .before .before .before .before .before .args .test))) (listOf (now (c .before .before .before .before .before .before .before .before .args .slots)) (c .before .before .before .before .before .before .before .before .args .head .0) (c .before .before .before .before .before .before .before .before .args .len))
-whole c = let a = c .before .before .before .before .before .before .before .before .args in leading-both _ (now (a .slots)) (a .head .0) (a .len) _ (c .before .before .before .before .before .before .as-index .ensures) (c .before .before .before .before .before .if1 .left) (omega arith) _ (c .before .before .before .leading-in2 .ensures) _ (omega arith) (c .before .before .if2 .left) (c .leading-in3 .ensures)
 
 as-index-requires : tie.Need-as-index-requires
 as-index-requires c κs = search needs
@@ -77,11 +68,14 @@ part-leading-in-end-3 c = search needs
 leading-in-requires-3 : tie.Need-leading-in-requires-3
 leading-in-requires-3 c κs = search needs
 
-add-result : tie.Need-add-result
-add-result c = let a = c .before .before .before .before .before .before .before .before .args in omega (arith, whole c, leading-upto (meets (testOf (a .test))) (now (a .slots)) (a .head .0) (a .len))
-
+-- the front run passed whole
 returns-3 : tie.Need-returns-3
-returns-3 c = whole c
+returns-3 c =
+    let a = c .before .before .before .before .before .before .before .before .args in
+    leading-both _ (now (a .slots)) (a .head .0) (a .len) _ (c .before .before .before .before .before .before .as-index .ensures) (c .before .before .before .before .before .if1 .left) (omega arith) _ (c .before .before .before .leading-in2 .ensures) _ (omega arith) (c .before .before .if2 .left) (c .leading-in3 .ensures)
+
+add-result : tie.Need-add-result
+add-result c = let a = c .before .before .before .before .before .before .before .before .args in omega (arith, returns-3 c, leading-upto (meets (testOf (a .test))) (now (a .slots)) (a .head .0) (a .len))
 
 pub before-first-rejected-spec : {M : Type 1} → statement M
 before-first-rejected-spec =
