@@ -35,7 +35,7 @@ pub use swaps::swap_remove_front;
 // The middle.
 pub use middle::insert;
 pub use middle::remove;
-pub use middle::retain;
+pub use retains::retain;
 
 // Lent slices and other queues.
 pub use joins::Joined;

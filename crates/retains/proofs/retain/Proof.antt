@@ -1,17 +1,17 @@
--- `middle::retain` meets its contract. Assumes nothing.
+-- `retains::retain` meets its contract. Assumes nothing.
 use mathlib.Core.Path.{_≡_}
 use Prim.Native.Nat.{_≤_, _<_}
 use native.Mathlib.Omega.{arith}
 use borrow.Author.Needs.{needs}
 use denote.Ref.{now}
 use lib.ListN.{length}
-use Rattle.middle.proofs.Retains.{kept-upto, retained-all, retained-few, retained}
 use Rattle.queue.proofs.Checks.{passed-zero, Fine, fine, told-first}
 use Rattle.queue.specs.Answers.{recOf}
+use Rattle.retains.proofs.Retains.{kept-upto, retained-all, retained-few, retained}
 use Rattle.rules.proofs.Places.{place-low}
 use Rattle.rules.specs.Refusals.{onQueue}
-use Rattle.middle.proofs.retaining.retain.Statement.{statement}
-use Rattle.middle.proofs.retaining.retain.Tie as tie
+use Rattle.retains.proofs.retain.Statement.{statement}
+use Rattle.retains.proofs.retain.Tie as tie
 
 -- past the first tests nothing is refused
 past : (c : tie.After-enum-told) → onQueue (length (now (c .before .before .before .before .args .slots))) (recOf (c .before .before .before .before .args .q)) 0 ≡ 0

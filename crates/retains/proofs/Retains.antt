@@ -7,9 +7,9 @@ use Prim.Native.Nat.{ℕ, suc, _≤_, _-_, _<_, _+_}
 use native.Mathlib.Omega.{arith}
 use lib.ListN.{length, take, drop, drop-of-length-le, length-append}
 use lib.Seq.{take-all}
-use Rattle.middle.proofs.Keeps.{those-split, behind-split, leading-fits}
-use Rattle.middle.specs.Leading.{leading}
 use Rattle.queue.proofs.Checks.{fine}
+use Rattle.retains.proofs.Keeps.{those-split, behind-split, leading-fits}
+use Rattle.retains.specs.Leading.{leading}
 use Rattle.rules.proofs.Count.{length-those}
 use Rattle.rules.proofs.Places.{place-place}
 use Rattle.rules.proofs.Ring.{write-behind}
