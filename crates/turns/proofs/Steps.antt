@@ -1,0 +1,91 @@
+-- The steps of calls on two queues, from what the calls answer. Assumes nothing.
+use mathlib.Core.List.{List, []}
+use mathlib.Core.Path.{_≡_, sym, _∙_, ap}
+use Prim.Native.Nat.{ℕ}
+use Rattle.queue.specs.Answers.{numberOf}
+use Rattle.queue.specs.declared.Refusal.{Refusal}
+use Rattle.joins.specs.Answers.{ofJoined, ofSplit}
+use Rattle.joins.specs.declared.Joined.{Joined}
+use Rattle.joins.specs.declared.Split.{Split}
+use Rattle.rules.specs.Drains.{Drain}
+use Rattle.rules.specs.Outcome.{Answer, Held, Outcome, shut, drawn, told}
+use Rattle.rules.specs.Pairs.{Pairing, Paired, toldPairing, doAppend, doSplit}
+use Rattle.rules.specs.Records.{Rec}
+use Rattle.rules.specs.Sequences.{Do, Call, on, appending, splitting, Seen, Queue, sideA, sideB, pairOf, stands, doOne, oneStep, bothStep, noStep, appendStep, splitStep, firstStep, turn, step, toldStep}
+use Rattle.turns.specs.Answers.{oneSeen, bothHeld, bothSeen, noneSeen, seenRound}
+
+-- a call on the first queue, which leaves the second
+pub one-told : (q : Queue) (o : Outcome) (p : Seen) (a : Answer) (x : List ℕ) → p ≡ oneSeen a (q .held) → (a, x) ≡ told o → (p, x, q .slots) ≡ toldStep (oneStep q o)
+unfolding oneStep
+one-told q o p a x same e = (λ i. (same i, x, q .slots)) ∙ ap (λ (t : Answer × List ℕ). (oneSeen (t .0) (q .held), t .1, q .slots)) e
+
+-- a refused answer has its refusal's number
+pub both-number : (n : ℕ) (x : Refusal) (m : ℕ) (h h′ : Held) → n ≡ numberOf x → bothHeld n m h h′ ≡ bothHeld (numberOf x) m h h′
+both-number n x m h h′ e = ap (λ (k : ℕ). bothHeld k m h h′) e
+
+-- an answer of `append`, and of `split_off`
+pub joined-known : (h : Held) (x k : Joined) → x ≡ k → bothSeen h (ofJoined k) ≡ bothSeen h (ofJoined x)
+joined-known h x k e = ap (λ (y : Joined). bothSeen h (ofJoined y)) (sym e)
+
+pub split-told : (h : Held) (x k : Split) → x ≡ k → bothSeen h (ofSplit k) ≡ bothSeen h (ofSplit x)
+split-told h x k e = ap (λ (y : Split). bothSeen h (ofSplit y)) (sym e)
+
+-- a call on both
+both-told : (h′ : Held) (m : Paired) (gone : List ℕ) (p : Seen) (k : Pairing) (x x′ : List ℕ) → p ≡ bothSeen h′ k → (k, x, x′) ≡ toldPairing m
+    → (p, x, x′) ≡ toldStep (bothStep h′ m gone)
+unfolding bothStep
+both-told h′ m gone p k x x′ same e = (λ i. (same i, x, x′)) ∙ ap (λ (t : Pairing × List ℕ × List ℕ). (bothSeen h′ (t .0), t .1, t .2)) e
+
+module _ (b b′ : List ℕ) (r r′ : Rec) (p : Seen) (k : Pairing) (x x′ : List ℕ) (same : p ≡ bothSeen (shut r′) k) where
+  pub append-shut : (k, x, x′) ≡ toldPairing (doAppend b r b′ r′) → (p, x, x′) ≡ toldStep (appendStep b (shut r) b′ (shut r′))
+  unfolding appendStep
+  append-shut e = both-told (shut r′) (doAppend b r b′ r′) [] p k x x′ same e
+
+  pub split-shut : (n : ℕ) → (k, x, x′) ≡ toldPairing (doSplit b r b′ n) → (p, x, x′) ≡ toldStep (splitStep b (shut r) b′ (shut r′) n)
+  unfolding splitStep
+  split-shut n e = both-told (shut r′) (doSplit b r b′ n) (stands b′ (shut r′)) p k x x′ same e
+
+-- ---- a call on both while a drain is open is passed over
+
+module _ (b b′ : List ℕ) (p : Seen) where
+  pub append-open : (d : Drain) (h′ : Held) → p ≡ noneSeen (drawn d) h′ → (p, b, b′) ≡ toldStep (appendStep b (drawn d) b′ h′)
+  unfolding appendStep noStep
+  append-open d (shut r′) e = λ i. (e i, b, b′)
+  append-open d (drawn d′) e = λ i. (e i, b, b′)
+
+  pub append-other-open : (r : Rec) (d′ : Drain) → p ≡ noneSeen (shut r) (drawn d′) → (p, b, b′) ≡ toldStep (appendStep b (shut r) b′ (drawn d′))
+  unfolding appendStep noStep
+  append-other-open r d′ e = λ i. (e i, b, b′)
+
+  pub split-open : (d : Drain) (h′ : Held) (n : ℕ) → p ≡ noneSeen (drawn d) h′ → (p, b, b′) ≡ toldStep (splitStep b (drawn d) b′ h′ n)
+  unfolding splitStep noStep
+  split-open d (shut r′) n e = λ i. (e i, b, b′)
+  split-open d (drawn d′) n e = λ i. (e i, b, b′)
+
+  pub split-other-open : (r : Rec) (d′ : Drain) (n : ℕ) → p ≡ noneSeen (shut r) (drawn d′) → (p, b, b′) ≡ toldStep (splitStep b (shut r) b′ (drawn d′) n)
+  unfolding splitStep noStep
+  split-other-open r d′ n e = λ i. (e i, b, b′)
+
+-- ---- a call on the first queue, and a turn
+
+pub first-one : (p q : Queue) (k : Do) (t : Seen) (a : Answer) (x : List ℕ) → t ≡ oneSeen a (q .held) → (a, x) ≡ told (doOne (p .slots) (p .held) k) → (t, x, q .slots) ≡ toldStep (firstStep p q (on k))
+unfolding firstStep
+first-one p q k t a x same e = one-told q (doOne (p .slots) (p .held) k) t a x same e
+
+pub first-append : (p q : Queue) (t : Seen × List ℕ × List ℕ) → t ≡ toldStep (appendStep (p .slots) (p .held) (q .slots) (q .held)) → t ≡ toldStep (firstStep p q appending)
+unfolding firstStep
+first-append p q t e = e
+
+pub first-split : (p q : Queue) (n : ℕ) (t : Seen × List ℕ × List ℕ) → t ≡ toldStep (splitStep (p .slots) (p .held) (q .slots) (q .held) n) → t ≡ toldStep (firstStep p q (splitting n))
+unfolding firstStep
+first-split p q n t e = e
+
+-- a call on A
+pub on-a : (p q : Queue) (k : Call) (t : Seen × List ℕ × List ℕ) → t ≡ toldStep (firstStep p q k) → t ≡ toldStep (step (pairOf p q) (record { side = sideA; call = k }))
+unfolding step turn
+on-a p q k t e = e
+
+-- a call on B, told of A and B
+pub on-b : (p q : Queue) (k : Call) (s t : Seen) (x x′ : List ℕ) → s ≡ seenRound t → (t, x′, x) ≡ toldStep (firstStep q p k) → (s, x, x′) ≡ toldStep (step (pairOf p q) (record { side = sideB; call = k }))
+unfolding step turn
+on-b p q k s t x x′ same e = (λ i. (same i, x, x′)) ∙ ap (λ (u : Seen × List ℕ × List ℕ). (seenRound (u .0), u .2, u .1)) e
