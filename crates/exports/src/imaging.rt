@@ -4,7 +4,7 @@ use replies::CountReply;
 use replies::MadeReply;
 ghost use mathlib.Core.Path.{_≡_};
 ghost use Rattle.rules.specs.Makes.{readImage};
-ghost use Rattle.replies.specs.InC.{makingToldInC, countInC};
+ghost use Rattle.replies.specs.InC.{makingToldInC};
 ghost use Rattle.replies.specs.Replies.{ofMadeReply, ofCountReply};
 ghost use Rattle.queue.specs.Answers.{recOf};
 ghost use Rattle.exports.specs.Images.{writingToldInC};

@@ -1,5 +1,5 @@
 -- `exports::kinds::refused_kind` meets its contract. Assumes nothing.
-use mathlib.Core.Path.{_≡_, sym, _∙_}
+use mathlib.Core.Path.{sym, _∙_}
 use Rattle.queue.proofs.Checks.{failed-number, passed-zero}
 use Rattle.queue.proofs.Numbers.{some-number}
 use Rattle.rules.proofs.Refusals.{queue-stop, queue-go}

@@ -1,5 +1,5 @@
 -- `replies::changes::of_made` meets its contract. Assumes nothing.
-use mathlib.Core.Path.{_≡_, refl}
+use mathlib.Core.Path.{refl}
 use Rattle.replies.proofs.Arms.{arm, arm-with, second}
 use Rattle.replies.specs.InC.{makingInC}
 use Rattle.queue.specs.Answers.{ofMade}

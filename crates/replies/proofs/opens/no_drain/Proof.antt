@@ -1,5 +1,5 @@
 -- `replies::opens::no_drain` meets its contract. Assumes nothing.
-use mathlib.Core.Path.{_≡_, ap}
+use mathlib.Core.Path.{ap}
 use Prim.Native.Nat.{ℕ}
 use Rattle.rules.specs.Drains.{Drain}
 use borrow.Author.Needs.{needs}

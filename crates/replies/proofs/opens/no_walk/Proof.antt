@@ -1,5 +1,5 @@
 -- `replies::opens::no_walk` meets its contract. Assumes nothing.
-use mathlib.Core.Path.{_≡_, ap}
+use mathlib.Core.Path.{ap}
 use Rattle.rules.specs.Records.{Rec}
 use Rattle.rules.specs.Walks.{Walk}
 use borrow.Author.Needs.{needs}

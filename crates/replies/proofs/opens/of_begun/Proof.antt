@@ -1,5 +1,5 @@
 -- `replies::opens::of_begun` meets its contract. Assumes nothing.
-use mathlib.Core.Path.{_≡_, refl}
+use mathlib.Core.Path.{refl}
 use Rattle.replies.proofs.Arms.{arm, arm-with}
 use Rattle.replies.specs.InC.{begunInC}
 use Rattle.walks.specs.Answers.{ofBegun}

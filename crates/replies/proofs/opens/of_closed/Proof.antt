@@ -1,5 +1,5 @@
 -- `replies::opens::of_closed` meets its contract. Assumes nothing.
-use mathlib.Core.Path.{_≡_, refl}
+use mathlib.Core.Path.{refl}
 use Rattle.replies.proofs.Arms.{arm-with, first, second}
 use Rattle.replies.specs.InC.{heldInC}
 use Rattle.drains.specs.Answers.{ofClosed}
