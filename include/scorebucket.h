@@ -148,7 +148,7 @@ struct scorebucket_step_reply {
 /* Makes an empty queue over lent slots. Refusal: 1. */
 struct scorebucket_made_reply scorebucket_fresh(const uint32_t *slots, size_t cap);
 
-/* ---- the ends. Every call from here on refuses 1 and 2; more is said where there is more. */
+/* ---- the ends. Every call from here on refuses 1 and 2, but for image reading; more is said where there is more. */
 
 /* Appends v. Refusal: 4. */
 struct scorebucket_reply scorebucket_push_back(uint32_t *slots, size_t cap, struct scorebucket_deque q, uint32_t v);

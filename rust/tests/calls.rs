@@ -1,12 +1,9 @@
 //! Every call once, on a queue whose list goes round the end.
+mod common;
+
+use common::{LAID, WRAPPED};
 use scorebucket::{Queue, Record, Refusal, Test};
 use std::cmp::Ordering;
-
-/// Six slots in which 10, 20, 30, 40 go round the end.
-const LAID: [u32; 6] = [30, 40, 7, 8, 10, 20];
-
-/// The record of that list.
-const WRAPPED: Record = Record { head: 4, len: 4 };
 
 fn wrapped(slots: &mut [u32; 6]) -> Queue<'_> {
     *slots = LAID;

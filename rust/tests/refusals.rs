@@ -1,8 +1,8 @@
 //! What is refused, and that nothing has changed then.
-use scorebucket::{Queue, Record, Refusal, Test};
+mod common;
 
-const LAID: [u32; 6] = [30, 40, 7, 8, 10, 20];
-const WRAPPED: Record = Record { head: 4, len: 4 };
+use common::{LAID, WRAPPED};
+use scorebucket::{Queue, Record, Refusal, Test};
 
 /// Makes a call on the queue of the given record; it must be refused so, and leave record and slots as they were.
 fn refused<T>(
