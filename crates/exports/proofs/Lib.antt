@@ -1,0 +1,3 @@
+-- `Crossing`: what an exported call answers. `ByTest`: calls with a test of a kind.
+pub mod Crossing
+pub mod ByTest

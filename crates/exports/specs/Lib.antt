@@ -1,0 +1,3 @@
+-- A test by its kind, and image writing as a caller from C gets it.
+pub mod Kinds
+pub mod Images

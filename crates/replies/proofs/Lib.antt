@@ -1,0 +1,2 @@
+-- How an arm of a match is read.
+pub mod Arms

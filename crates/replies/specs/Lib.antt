@@ -1,0 +1,3 @@
+-- The answers as a caller from C gets them, and the structs as the contracts read them.
+pub mod InC
+pub mod Replies

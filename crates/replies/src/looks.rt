@@ -1,0 +1,189 @@
+// The answers of the calls that only look. Refused, the other fields are 0, false, or 0..0.
+use compare::Ordering;
+use compare::Truth;
+use images::Written;
+use queue::Found;
+use runs::Ranges;
+use runs::Span;
+use search::Point;
+use search::Searched;
+ghost use mathlib.Core.Path.{_≡_};
+ghost use Rattle.queue.specs.Answers.{ofFound};
+ghost use Rattle.compare.specs.Answers.{ofTruth, ofOrdering};
+ghost use Rattle.search.specs.Answers.{ofSearched, ofPoint};
+ghost use Rattle.runs.specs.Answers.{ofRanges};
+ghost use Rattle.images.specs.Answers.{ofWritten};
+ghost use Rattle.replies.specs.InC.{seenInC, truthInC, orderInC, spotInC, countInC, runsInC};
+ghost use Rattle.replies.specs.Replies.{ofSeenReply, ofTruthReply, ofOrderReply, ofSearchReply, ofCountReply, ofRangesReply};
+
+// What a look at one element answers: `seen` is 1 where `number` stands there, else both are 0.
+#[repr(C)]
+pub struct SeenReply {
+    pub refused: usize,
+    pub seen: u32,
+    pub number: u32,
+}
+
+// What a yes-or-no question answers.
+#[repr(C)]
+pub struct TruthReply {
+    pub refused: usize,
+    pub is: bool,
+}
+
+// How two lists stand to each other: 1 less, 2 equal, 3 greater; refused, 0.
+#[repr(C)]
+pub struct OrderReply {
+    pub refused: usize,
+    pub order: usize,
+}
+
+// What a search answers: the position where x stands, or, not found, where to insert it.
+#[repr(C)]
+pub struct SearchReply {
+    pub refused: usize,
+    pub position: usize,
+    pub found: bool,
+}
+
+// A number of elements or of bytes.
+#[repr(C)]
+pub struct CountReply {
+    pub refused: usize,
+    pub count: usize,
+}
+
+// The two runs of a range, as places in the slots.
+#[repr(C)]
+pub struct RangesReply {
+    pub refused: usize,
+    pub front: Span,
+    pub back: Span,
+}
+
+// The answer of `get`, `front` and `back`.
+pub fn of_found(found: Found) -> SeenReply
+    ensures { λ r. ⌜ ofSeenReply r ≡ seenInC (ofFound found) ⌝ }
+{
+    match found {
+        Found::Number(number) => SeenReply {
+            refused: 0,
+            seen: 1,
+            number,
+        },
+        Found::Nothing => SeenReply {
+            refused: 0,
+            seen: 0,
+            number: 0,
+        },
+        Found::Refused(refusal) => SeenReply {
+            refused: answers::number_of(refusal),
+            seen: 0,
+            number: 0,
+        },
+    }
+}
+
+// The answer of `contains` and `eq`.
+pub fn of_truth(truth: Truth) -> TruthReply
+    ensures { λ r. ⌜ ofTruthReply r ≡ truthInC (ofTruth truth) ⌝ }
+{
+    match truth {
+        Truth::Is(is) => TruthReply { refused: 0, is },
+        Truth::Refused(refusal) => TruthReply {
+            refused: answers::number_of(refusal),
+            is: false,
+        },
+    }
+}
+
+// The answer of `cmp`.
+pub fn of_ordering(ordering: Ordering) -> OrderReply
+    ensures { λ r. ⌜ ofOrderReply r ≡ orderInC (ofOrdering ordering) ⌝ }
+{
+    match ordering {
+        Ordering::Less => OrderReply {
+            refused: 0,
+            order: 1,
+        },
+        Ordering::Equal => OrderReply {
+            refused: 0,
+            order: 2,
+        },
+        Ordering::Greater => OrderReply {
+            refused: 0,
+            order: 3,
+        },
+        Ordering::Refused(refusal) => OrderReply {
+            refused: answers::number_of(refusal),
+            order: 0,
+        },
+    }
+}
+
+// The answer of `binary_search`.
+pub fn of_searched(searched: Searched) -> SearchReply
+    ensures { λ r. ⌜ ofSearchReply r ≡ spotInC (ofSearched searched) ⌝ }
+{
+    match searched {
+        Searched::Found(position) => SearchReply {
+            refused: 0,
+            position,
+            found: true,
+        },
+        Searched::Place(position) => SearchReply {
+            refused: 0,
+            position,
+            found: false,
+        },
+        Searched::Refused(refusal) => SearchReply {
+            refused: answers::number_of(refusal),
+            position: 0,
+            found: false,
+        },
+    }
+}
+
+// The answer of `partition_point`.
+pub fn of_point(point: Point) -> CountReply
+    ensures { λ r. ⌜ ofCountReply r ≡ countInC (ofPoint point) ⌝ }
+{
+    match point {
+        Point::At(count) => CountReply { refused: 0, count },
+        Point::Refused(refusal) => CountReply {
+            refused: answers::number_of(refusal),
+            count: 0,
+        },
+    }
+}
+
+// The answer of `write_image`.
+pub fn of_written(written: Written) -> CountReply
+    ensures { λ r. ⌜ ofCountReply r ≡ countInC (ofWritten written) ⌝ }
+{
+    match written {
+        Written::Bytes(count) => CountReply { refused: 0, count },
+        Written::Refused(refusal) => CountReply {
+            refused: answers::number_of(refusal),
+            count: 0,
+        },
+    }
+}
+
+// The answer of `slice_ranges`.
+pub fn of_ranges(ranges: Ranges) -> RangesReply
+    ensures { λ r. ⌜ ofRangesReply r ≡ runsInC (ofRanges ranges) ⌝ }
+{
+    match ranges {
+        Ranges::Runs { front, back } => RangesReply {
+            refused: 0,
+            front,
+            back,
+        },
+        Ranges::Refused(refusal) => RangesReply {
+            refused: answers::number_of(refusal),
+            front: Span { start: 0, end: 0 },
+            back: Span { start: 0, end: 0 },
+        },
+    }
+}

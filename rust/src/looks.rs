@@ -1,0 +1,98 @@
+//! The calls that only look.
+use crate::raw;
+use crate::{Iter, Queue, Refusal, Test};
+use std::cmp::Ordering;
+use std::ops::RangeBounds;
+
+/// What a look at one element saw.
+fn seen(reply: raw::SeenReply) -> Result<Option<u32>, Refusal> {
+    Refusal::of(reply.refused)?;
+    Ok((reply.seen == 1).then_some(reply.number))
+}
+
+impl Queue<'_> {
+    /// The element at position i.
+    pub fn get(&self, i: usize) -> Result<Option<u32>, Refusal> {
+        seen(raw::get(self.slots, self.record, i))
+    }
+
+    /// The first element.
+    pub fn front(&self) -> Result<Option<u32>, Refusal> {
+        seen(raw::front(self.slots, self.record))
+    }
+
+    /// The last element.
+    pub fn back(&self) -> Result<Option<u32>, Refusal> {
+        seen(raw::back(self.slots, self.record))
+    }
+
+    /// Whether x stands in it.
+    pub fn contains(&self, x: u32) -> Result<bool, Refusal> {
+        let reply = raw::contains(self.slots, self.record, x);
+        Refusal::of(reply.refused)?;
+        Ok(reply.is)
+    }
+
+    /// Whether both hold the same list.
+    pub fn eq(&self, other: &Queue<'_>) -> Result<bool, Refusal> {
+        let reply = raw::eq(self.slots, self.record, other.slots, other.record);
+        Refusal::of(reply.refused)?;
+        Ok(reply.is)
+    }
+
+    /// How its list stands to the other's in lexicographic order.
+    #[allow(clippy::should_implement_trait)] // the trait's can't refuse
+    pub fn cmp(&self, other: &Queue<'_>) -> Result<Ordering, Refusal> {
+        let reply = raw::cmp(self.slots, self.record, other.slots, other.record);
+        Refusal::of(reply.refused)?;
+        Ok(match reply.order {
+            1 => Ordering::Less,
+            2 => Ordering::Equal,
+            _ => Ordering::Greater,
+        })
+    }
+
+    /// Where x stands in a sorted queue: `Ok` of the position, or `Err` of the position where to insert it.
+    pub fn binary_search(&self, x: u32) -> Result<Result<usize, usize>, Refusal> {
+        let reply = raw::binary_search(self.slots, self.record, x);
+        Refusal::of(reply.refused)?;
+        Ok(match reply.found {
+            true => Ok(reply.position),
+            false => Err(reply.position),
+        })
+    }
+
+    /// How many elements meet the test, in a queue in which those stand before all others.
+    pub fn partition_point(&self, test: Test) -> Result<usize, Refusal> {
+        let (kind, k) = test.numbers();
+        let reply = raw::partition_point(self.slots, self.record, kind, k);
+        Refusal::of(reply.refused)?;
+        Ok(reply.count)
+    }
+
+    /// The two runs of a range: parts of the slots that hold its elements, the first run's before the second's.
+    pub fn slices(&self, range: impl RangeBounds<usize>) -> Result<(&[u32], &[u32]), Refusal> {
+        let (start, end) = self.ends(range)?;
+        let reply = raw::slice_ranges(self.slots, self.record, start, end);
+        Refusal::of(reply.refused)?;
+        let part = |span: raw::Span| &self.slots[span.start..span.end];
+        Ok((part(reply.front), part(reply.back)))
+    }
+
+    /// The two runs of the whole list.
+    pub fn as_slices(&self) -> Result<(&[u32], &[u32]), Refusal> {
+        self.slices(..)
+    }
+
+    /// A walk over the list, from both ends.
+    pub fn iter(&self) -> Result<Iter<'_>, Refusal> {
+        Iter::begin(self.slots, self.record)
+    }
+
+    /// Writes the saved image, 3 + 4 * len bytes, to the start of the target, and gives their number.
+    pub fn write_image(&self, target: &mut [u8]) -> Result<usize, Refusal> {
+        let reply = raw::write_image(self.slots, self.record, target);
+        Refusal::of(reply.refused)?;
+        Ok(reply.count)
+    }
+}

@@ -1,0 +1,639 @@
+//! The exported calls as they are, and over each a safe function that lends it slices. The only file with `unsafe`.
+//!
+//! Why the functions are safe: each exported call is proved for any slots, record and numbers; a slice is never null, is aligned and as long as it says; and what a
+//! call writes comes as `&mut`, so that nothing else in the call overlaps it. The structs are those of `include/scorebucket.h`.
+
+/// The record of a queue: element i stands `i` slots on from `head`, round the end.
+#[repr(C)]
+#[derive(Clone, Copy, Debug, Default, PartialEq, Eq)]
+pub struct Record {
+    /// The slot of the first element.
+    pub head: usize,
+    /// How many elements there are.
+    pub len: usize,
+}
+
+/// The record of an open drain.
+#[repr(C)]
+#[derive(Clone, Copy)]
+pub(crate) struct Drain {
+    pub head: usize,
+    pub start: usize,
+    pub drain_len: usize,
+    pub idx: usize,
+    pub tail_len: usize,
+    pub remaining: usize,
+}
+
+/// A walk by value.
+#[repr(C)]
+#[derive(Clone, Copy)]
+pub(crate) struct Walk {
+    pub queue: Record,
+    pub low: usize,
+    pub high: usize,
+}
+
+/// A part of the slots.
+#[repr(C)]
+#[derive(Clone, Copy)]
+pub(crate) struct Span {
+    pub start: usize,
+    pub end: usize,
+}
+
+/// Of a call on one queue.
+#[repr(C)]
+#[derive(Clone, Copy)]
+pub(crate) struct Reply {
+    pub refused: usize,
+    pub moved: usize,
+    pub queue: Record,
+    pub handed: u32,
+    pub number: u32,
+}
+
+/// Of a call that makes a record.
+#[repr(C)]
+#[derive(Clone, Copy)]
+pub(crate) struct MadeReply {
+    pub refused: usize,
+    pub moved: usize,
+    pub queue: Record,
+}
+
+/// Of a call on two queues.
+#[repr(C)]
+#[derive(Clone, Copy)]
+pub(crate) struct PairReply {
+    pub refused: usize,
+    pub moved: usize,
+    pub queue: Record,
+    pub other: Record,
+}
+
+/// Of a look at one element.
+#[repr(C)]
+#[derive(Clone, Copy)]
+pub(crate) struct SeenReply {
+    pub refused: usize,
+    pub seen: u32,
+    pub number: u32,
+}
+
+/// Of a yes-or-no question.
+#[repr(C)]
+#[derive(Clone, Copy)]
+pub(crate) struct TruthReply {
+    pub refused: usize,
+    pub is: bool,
+}
+
+/// Of a comparison: 1 less, 2 equal, 3 greater.
+#[repr(C)]
+#[derive(Clone, Copy)]
+pub(crate) struct OrderReply {
+    pub refused: usize,
+    pub order: usize,
+}
+
+/// Of a search.
+#[repr(C)]
+#[derive(Clone, Copy)]
+pub(crate) struct SearchReply {
+    pub refused: usize,
+    pub position: usize,
+    pub found: bool,
+}
+
+/// A number of elements or of bytes.
+#[repr(C)]
+#[derive(Clone, Copy)]
+pub(crate) struct CountReply {
+    pub refused: usize,
+    pub count: usize,
+}
+
+/// The two runs of a range.
+#[repr(C)]
+#[derive(Clone, Copy)]
+pub(crate) struct RangesReply {
+    pub refused: usize,
+    pub front: Span,
+    pub back: Span,
+}
+
+/// Of the opening and the closing of a drain.
+#[repr(C)]
+#[derive(Clone, Copy)]
+pub(crate) struct DrainReply {
+    pub refused: usize,
+    pub moved: usize,
+    pub queue: Record,
+    pub drain: Drain,
+}
+
+/// Of a drain's `next` and `next_back`.
+#[repr(C)]
+#[derive(Clone, Copy)]
+pub(crate) struct DrawReply {
+    pub refused: usize,
+    pub moved: usize,
+    pub drain: Drain,
+    pub handed: u32,
+    pub number: u32,
+}
+
+/// Of the beginning of a walk.
+#[repr(C)]
+#[derive(Clone, Copy)]
+pub(crate) struct WalkReply {
+    pub refused: usize,
+    pub walk: Walk,
+}
+
+/// Of a step of a walk.
+#[repr(C)]
+#[derive(Clone, Copy)]
+pub(crate) struct StepReply {
+    pub refused: usize,
+    pub walk: Walk,
+    pub seen: u32,
+    pub number: u32,
+}
+
+mod exported {
+    use super::*;
+
+    extern "C" {
+        pub fn scorebucket_fresh(slots: *const u32, slots_len: usize) -> MadeReply;
+        pub fn scorebucket_push_back(slots: *mut u32, slots_len: usize, q: Record, v: u32)
+            -> Reply;
+        pub fn scorebucket_push_front(
+            slots: *mut u32,
+            slots_len: usize,
+            q: Record,
+            v: u32,
+        ) -> Reply;
+        pub fn scorebucket_pop_front(slots: *const u32, slots_len: usize, q: Record) -> Reply;
+        pub fn scorebucket_pop_back(slots: *const u32, slots_len: usize, q: Record) -> Reply;
+        pub fn scorebucket_pop_front_if(
+            slots: *const u32,
+            slots_len: usize,
+            q: Record,
+            kind: u32,
+            k: u32,
+        ) -> Reply;
+        pub fn scorebucket_pop_back_if(
+            slots: *const u32,
+            slots_len: usize,
+            q: Record,
+            kind: u32,
+            k: u32,
+        ) -> Reply;
+        pub fn scorebucket_get(
+            slots: *const u32,
+            slots_len: usize,
+            q: Record,
+            i: usize,
+        ) -> SeenReply;
+        pub fn scorebucket_front(slots: *const u32, slots_len: usize, q: Record) -> SeenReply;
+        pub fn scorebucket_back(slots: *const u32, slots_len: usize, q: Record) -> SeenReply;
+        pub fn scorebucket_truncate(
+            slots: *const u32,
+            slots_len: usize,
+            q: Record,
+            n: usize,
+        ) -> Reply;
+        pub fn scorebucket_truncate_front(
+            slots: *const u32,
+            slots_len: usize,
+            q: Record,
+            n: usize,
+        ) -> Reply;
+        pub fn scorebucket_clear(slots: *const u32, slots_len: usize, q: Record) -> Reply;
+        pub fn scorebucket_swap(
+            slots: *mut u32,
+            slots_len: usize,
+            q: Record,
+            i: usize,
+            j: usize,
+        ) -> Reply;
+        pub fn scorebucket_swap_remove_front(
+            slots: *mut u32,
+            slots_len: usize,
+            q: Record,
+            i: usize,
+        ) -> Reply;
+        pub fn scorebucket_swap_remove_back(
+            slots: *mut u32,
+            slots_len: usize,
+            q: Record,
+            i: usize,
+        ) -> Reply;
+        pub fn scorebucket_insert(
+            slots: *mut u32,
+            slots_len: usize,
+            q: Record,
+            i: usize,
+            v: u32,
+        ) -> Reply;
+        pub fn scorebucket_remove(slots: *mut u32, slots_len: usize, q: Record, i: usize) -> Reply;
+        pub fn scorebucket_retain(
+            slots: *mut u32,
+            slots_len: usize,
+            q: Record,
+            kind: u32,
+            k: u32,
+        ) -> Reply;
+        pub fn scorebucket_extend(
+            slots: *mut u32,
+            slots_len: usize,
+            q: Record,
+            values: *const u32,
+            values_len: usize,
+        ) -> Reply;
+        pub fn scorebucket_prepend(
+            slots: *mut u32,
+            slots_len: usize,
+            q: Record,
+            values: *const u32,
+            values_len: usize,
+        ) -> Reply;
+        pub fn scorebucket_extend_front(
+            slots: *mut u32,
+            slots_len: usize,
+            q: Record,
+            values: *const u32,
+            values_len: usize,
+        ) -> Reply;
+        pub fn scorebucket_resize(
+            slots: *mut u32,
+            slots_len: usize,
+            q: Record,
+            n: usize,
+            v: u32,
+        ) -> Reply;
+        pub fn scorebucket_append(
+            slots: *mut u32,
+            slots_len: usize,
+            q: Record,
+            other_slots: *const u32,
+            other_slots_len: usize,
+            other: Record,
+        ) -> PairReply;
+        pub fn scorebucket_split_off(
+            slots: *const u32,
+            slots_len: usize,
+            q: Record,
+            at: usize,
+            target: *mut u32,
+            target_len: usize,
+        ) -> PairReply;
+        pub fn scorebucket_drain(
+            slots: *const u32,
+            slots_len: usize,
+            q: Record,
+            start: usize,
+            end: usize,
+        ) -> DrainReply;
+        pub fn scorebucket_drain_next(slots: *const u32, slots_len: usize, d: Drain) -> DrawReply;
+        pub fn scorebucket_drain_next_back(
+            slots: *const u32,
+            slots_len: usize,
+            d: Drain,
+        ) -> DrawReply;
+        pub fn scorebucket_drain_close(slots: *mut u32, slots_len: usize, d: Drain) -> DrainReply;
+        pub fn scorebucket_splice(
+            slots: *mut u32,
+            slots_len: usize,
+            q: Record,
+            start: usize,
+            end: usize,
+            values: *const u32,
+            values_len: usize,
+        ) -> Reply;
+        pub fn scorebucket_slice_ranges(
+            slots: *const u32,
+            slots_len: usize,
+            q: Record,
+            start: usize,
+            end: usize,
+        ) -> RangesReply;
+        pub fn scorebucket_begin_walk(slots: *const u32, slots_len: usize, q: Record) -> WalkReply;
+        pub fn scorebucket_walk_next(slots: *const u32, slots_len: usize, w: Walk) -> StepReply;
+        pub fn scorebucket_walk_next_back(
+            slots: *const u32,
+            slots_len: usize,
+            w: Walk,
+        ) -> StepReply;
+        pub fn scorebucket_contains(
+            slots: *const u32,
+            slots_len: usize,
+            q: Record,
+            x: u32,
+        ) -> TruthReply;
+        pub fn scorebucket_eq(
+            slots: *const u32,
+            slots_len: usize,
+            q: Record,
+            other_slots: *const u32,
+            other_slots_len: usize,
+            other: Record,
+        ) -> TruthReply;
+        pub fn scorebucket_cmp(
+            slots: *const u32,
+            slots_len: usize,
+            q: Record,
+            other_slots: *const u32,
+            other_slots_len: usize,
+            other: Record,
+        ) -> OrderReply;
+        pub fn scorebucket_binary_search(
+            slots: *const u32,
+            slots_len: usize,
+            q: Record,
+            x: u32,
+        ) -> SearchReply;
+        pub fn scorebucket_partition_point(
+            slots: *const u32,
+            slots_len: usize,
+            q: Record,
+            kind: u32,
+            k: u32,
+        ) -> CountReply;
+        pub fn scorebucket_write_image(
+            slots: *const u32,
+            slots_len: usize,
+            q: Record,
+            target: *mut u8,
+            target_len: usize,
+        ) -> CountReply;
+        pub fn scorebucket_read_image(
+            slots: *mut u32,
+            slots_len: usize,
+            bytes: *const u8,
+            bytes_len: usize,
+        ) -> MadeReply;
+    }
+}
+
+pub(crate) fn fresh(slots: &[u32]) -> MadeReply {
+    unsafe { exported::scorebucket_fresh(slots.as_ptr(), slots.len()) }
+}
+
+pub(crate) fn push_back(slots: &mut [u32], q: Record, v: u32) -> Reply {
+    unsafe { exported::scorebucket_push_back(slots.as_mut_ptr(), slots.len(), q, v) }
+}
+
+pub(crate) fn push_front(slots: &mut [u32], q: Record, v: u32) -> Reply {
+    unsafe { exported::scorebucket_push_front(slots.as_mut_ptr(), slots.len(), q, v) }
+}
+
+pub(crate) fn pop_front(slots: &[u32], q: Record) -> Reply {
+    unsafe { exported::scorebucket_pop_front(slots.as_ptr(), slots.len(), q) }
+}
+
+pub(crate) fn pop_back(slots: &[u32], q: Record) -> Reply {
+    unsafe { exported::scorebucket_pop_back(slots.as_ptr(), slots.len(), q) }
+}
+
+pub(crate) fn pop_front_if(slots: &[u32], q: Record, kind: u32, k: u32) -> Reply {
+    unsafe { exported::scorebucket_pop_front_if(slots.as_ptr(), slots.len(), q, kind, k) }
+}
+
+pub(crate) fn pop_back_if(slots: &[u32], q: Record, kind: u32, k: u32) -> Reply {
+    unsafe { exported::scorebucket_pop_back_if(slots.as_ptr(), slots.len(), q, kind, k) }
+}
+
+pub(crate) fn get(slots: &[u32], q: Record, i: usize) -> SeenReply {
+    unsafe { exported::scorebucket_get(slots.as_ptr(), slots.len(), q, i) }
+}
+
+pub(crate) fn front(slots: &[u32], q: Record) -> SeenReply {
+    unsafe { exported::scorebucket_front(slots.as_ptr(), slots.len(), q) }
+}
+
+pub(crate) fn back(slots: &[u32], q: Record) -> SeenReply {
+    unsafe { exported::scorebucket_back(slots.as_ptr(), slots.len(), q) }
+}
+
+pub(crate) fn truncate(slots: &[u32], q: Record, n: usize) -> Reply {
+    unsafe { exported::scorebucket_truncate(slots.as_ptr(), slots.len(), q, n) }
+}
+
+pub(crate) fn truncate_front(slots: &[u32], q: Record, n: usize) -> Reply {
+    unsafe { exported::scorebucket_truncate_front(slots.as_ptr(), slots.len(), q, n) }
+}
+
+pub(crate) fn clear(slots: &[u32], q: Record) -> Reply {
+    unsafe { exported::scorebucket_clear(slots.as_ptr(), slots.len(), q) }
+}
+
+pub(crate) fn swap(slots: &mut [u32], q: Record, i: usize, j: usize) -> Reply {
+    unsafe { exported::scorebucket_swap(slots.as_mut_ptr(), slots.len(), q, i, j) }
+}
+
+pub(crate) fn swap_remove_front(slots: &mut [u32], q: Record, i: usize) -> Reply {
+    unsafe { exported::scorebucket_swap_remove_front(slots.as_mut_ptr(), slots.len(), q, i) }
+}
+
+pub(crate) fn swap_remove_back(slots: &mut [u32], q: Record, i: usize) -> Reply {
+    unsafe { exported::scorebucket_swap_remove_back(slots.as_mut_ptr(), slots.len(), q, i) }
+}
+
+pub(crate) fn insert(slots: &mut [u32], q: Record, i: usize, v: u32) -> Reply {
+    unsafe { exported::scorebucket_insert(slots.as_mut_ptr(), slots.len(), q, i, v) }
+}
+
+pub(crate) fn remove(slots: &mut [u32], q: Record, i: usize) -> Reply {
+    unsafe { exported::scorebucket_remove(slots.as_mut_ptr(), slots.len(), q, i) }
+}
+
+pub(crate) fn retain(slots: &mut [u32], q: Record, kind: u32, k: u32) -> Reply {
+    unsafe { exported::scorebucket_retain(slots.as_mut_ptr(), slots.len(), q, kind, k) }
+}
+
+pub(crate) fn extend(slots: &mut [u32], q: Record, values: &[u32]) -> Reply {
+    unsafe {
+        exported::scorebucket_extend(
+            slots.as_mut_ptr(),
+            slots.len(),
+            q,
+            values.as_ptr(),
+            values.len(),
+        )
+    }
+}
+
+pub(crate) fn prepend(slots: &mut [u32], q: Record, values: &[u32]) -> Reply {
+    unsafe {
+        exported::scorebucket_prepend(
+            slots.as_mut_ptr(),
+            slots.len(),
+            q,
+            values.as_ptr(),
+            values.len(),
+        )
+    }
+}
+
+pub(crate) fn extend_front(slots: &mut [u32], q: Record, values: &[u32]) -> Reply {
+    unsafe {
+        exported::scorebucket_extend_front(
+            slots.as_mut_ptr(),
+            slots.len(),
+            q,
+            values.as_ptr(),
+            values.len(),
+        )
+    }
+}
+
+pub(crate) fn resize(slots: &mut [u32], q: Record, n: usize, v: u32) -> Reply {
+    unsafe { exported::scorebucket_resize(slots.as_mut_ptr(), slots.len(), q, n, v) }
+}
+
+pub(crate) fn append(
+    slots: &mut [u32],
+    q: Record,
+    other_slots: &[u32],
+    other: Record,
+) -> PairReply {
+    unsafe {
+        exported::scorebucket_append(
+            slots.as_mut_ptr(),
+            slots.len(),
+            q,
+            other_slots.as_ptr(),
+            other_slots.len(),
+            other,
+        )
+    }
+}
+
+pub(crate) fn split_off(slots: &[u32], q: Record, at: usize, target: &mut [u32]) -> PairReply {
+    unsafe {
+        exported::scorebucket_split_off(
+            slots.as_ptr(),
+            slots.len(),
+            q,
+            at,
+            target.as_mut_ptr(),
+            target.len(),
+        )
+    }
+}
+
+pub(crate) fn drain(slots: &[u32], q: Record, start: usize, end: usize) -> DrainReply {
+    unsafe { exported::scorebucket_drain(slots.as_ptr(), slots.len(), q, start, end) }
+}
+
+pub(crate) fn drain_next(slots: &[u32], d: Drain) -> DrawReply {
+    unsafe { exported::scorebucket_drain_next(slots.as_ptr(), slots.len(), d) }
+}
+
+pub(crate) fn drain_next_back(slots: &[u32], d: Drain) -> DrawReply {
+    unsafe { exported::scorebucket_drain_next_back(slots.as_ptr(), slots.len(), d) }
+}
+
+pub(crate) fn drain_close(slots: &mut [u32], d: Drain) -> DrainReply {
+    unsafe { exported::scorebucket_drain_close(slots.as_mut_ptr(), slots.len(), d) }
+}
+
+pub(crate) fn splice(
+    slots: &mut [u32],
+    q: Record,
+    start: usize,
+    end: usize,
+    values: &[u32],
+) -> Reply {
+    unsafe {
+        exported::scorebucket_splice(
+            slots.as_mut_ptr(),
+            slots.len(),
+            q,
+            start,
+            end,
+            values.as_ptr(),
+            values.len(),
+        )
+    }
+}
+
+pub(crate) fn slice_ranges(slots: &[u32], q: Record, start: usize, end: usize) -> RangesReply {
+    unsafe { exported::scorebucket_slice_ranges(slots.as_ptr(), slots.len(), q, start, end) }
+}
+
+pub(crate) fn begin_walk(slots: &[u32], q: Record) -> WalkReply {
+    unsafe { exported::scorebucket_begin_walk(slots.as_ptr(), slots.len(), q) }
+}
+
+pub(crate) fn walk_next(slots: &[u32], w: Walk) -> StepReply {
+    unsafe { exported::scorebucket_walk_next(slots.as_ptr(), slots.len(), w) }
+}
+
+pub(crate) fn walk_next_back(slots: &[u32], w: Walk) -> StepReply {
+    unsafe { exported::scorebucket_walk_next_back(slots.as_ptr(), slots.len(), w) }
+}
+
+pub(crate) fn contains(slots: &[u32], q: Record, x: u32) -> TruthReply {
+    unsafe { exported::scorebucket_contains(slots.as_ptr(), slots.len(), q, x) }
+}
+
+pub(crate) fn eq(slots: &[u32], q: Record, other_slots: &[u32], other: Record) -> TruthReply {
+    unsafe {
+        exported::scorebucket_eq(
+            slots.as_ptr(),
+            slots.len(),
+            q,
+            other_slots.as_ptr(),
+            other_slots.len(),
+            other,
+        )
+    }
+}
+
+pub(crate) fn cmp(slots: &[u32], q: Record, other_slots: &[u32], other: Record) -> OrderReply {
+    unsafe {
+        exported::scorebucket_cmp(
+            slots.as_ptr(),
+            slots.len(),
+            q,
+            other_slots.as_ptr(),
+            other_slots.len(),
+            other,
+        )
+    }
+}
+
+pub(crate) fn binary_search(slots: &[u32], q: Record, x: u32) -> SearchReply {
+    unsafe { exported::scorebucket_binary_search(slots.as_ptr(), slots.len(), q, x) }
+}
+
+pub(crate) fn partition_point(slots: &[u32], q: Record, kind: u32, k: u32) -> CountReply {
+    unsafe { exported::scorebucket_partition_point(slots.as_ptr(), slots.len(), q, kind, k) }
+}
+
+pub(crate) fn write_image(slots: &[u32], q: Record, target: &mut [u8]) -> CountReply {
+    unsafe {
+        exported::scorebucket_write_image(
+            slots.as_ptr(),
+            slots.len(),
+            q,
+            target.as_mut_ptr(),
+            target.len(),
+        )
+    }
+}
+
+pub(crate) fn read_image(slots: &mut [u32], bytes: &[u8]) -> MadeReply {
+    unsafe {
+        exported::scorebucket_read_image(
+            slots.as_mut_ptr(),
+            slots.len(),
+            bytes.as_ptr(),
+            bytes.len(),
+        )
+    }
+}

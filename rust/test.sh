@@ -1,0 +1,12 @@
+#!/bin/sh
+# Proves the exported calls, builds their archive for this machine and runs the crate's tests over it, beside any words for `cargo test`.
+# With SCOREBUCKET_ARCHIVE set, that archive is taken as it is.
+set -eu
+cd "$(dirname "$0")/.."
+if [ -z "${SCOREBUCKET_ARCHIVE:-}" ]; then
+    sh tools/native.sh . exports
+    SCOREBUCKET_ARCHIVE=$PWD/target/native/libexports_native.a
+fi
+export SCOREBUCKET_ARCHIVE
+cd rust
+CARGO_TARGET_DIR=../target/rust cargo test --offline "$@"

@@ -1,0 +1,8 @@
+//! A queue to begin with: 10, 20, 30, 40 round the end of six slots.
+use scorebucket::Record;
+
+/// Its slots.
+pub const LAID: [u32; 6] = [30, 40, 7, 8, 10, 20];
+
+/// Its record.
+pub const WRAPPED: Record = Record { head: 4, len: 4 };
