@@ -13,7 +13,7 @@ ghost use Rattle.queue.specs.Answers.{recOf};
 pub extern "C" fn scorebucket_truncate(slots: &[u32], q: Deque, n: usize) -> Reply
     ensures { λ r. ⌜ (ofReply r, now (slots .entry)) ≡ toldInC (doRule (now (slots .entry)) (recOf q) (truncate n)) ⌝ }
 {
-    replies::of_change(ends::truncate(slots, q, n))
+    replies::of_change(cuts::truncate(slots, q, n))
 }
 
 // Keeps the last n.
@@ -21,7 +21,7 @@ pub extern "C" fn scorebucket_truncate(slots: &[u32], q: Deque, n: usize) -> Rep
 pub extern "C" fn scorebucket_truncate_front(slots: &[u32], q: Deque, n: usize) -> Reply
     ensures { λ r. ⌜ (ofReply r, now (slots .entry)) ≡ toldInC (doRule (now (slots .entry)) (recOf q) (truncateFront n)) ⌝ }
 {
-    replies::of_change(ends::truncate_front(slots, q, n))
+    replies::of_change(cuts::truncate_front(slots, q, n))
 }
 
 // Keeps none.
@@ -29,5 +29,5 @@ pub extern "C" fn scorebucket_truncate_front(slots: &[u32], q: Deque, n: usize) 
 pub extern "C" fn scorebucket_clear(slots: &[u32], q: Deque) -> Reply
     ensures { λ r. ⌜ (ofReply r, now (slots .entry)) ≡ toldInC (doRule (now (slots .entry)) (recOf q) clear) ⌝ }
 {
-    replies::of_change(ends::clear(slots, q))
+    replies::of_change(cuts::clear(slots, q))
 }

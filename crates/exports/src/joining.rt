@@ -15,7 +15,7 @@ ghost use Rattle.queue.specs.Answers.{recOf};
 pub extern "C" fn scorebucket_extend(slots: &mut [u32], q: Deque, values: &[u32]) -> Reply
     ensures { λ r. ⌜ (ofReply r, now (slots .exit)) ≡ toldInC (doRule (now (slots .entry)) (recOf q) (extendWith (now (values .entry)))) ⌝ }
 {
-    replies::of_change(joins::extend(slots, q, values))
+    replies::of_change(extends::extend(slots, q, values))
 }
 
 // Puts the values in front, in their order.
@@ -23,7 +23,7 @@ pub extern "C" fn scorebucket_extend(slots: &mut [u32], q: Deque, values: &[u32]
 pub extern "C" fn scorebucket_prepend(slots: &mut [u32], q: Deque, values: &[u32]) -> Reply
     ensures { λ r. ⌜ (ofReply r, now (slots .exit)) ≡ toldInC (doRule (now (slots .entry)) (recOf q) (prepend (now (values .entry)))) ⌝ }
 {
-    replies::of_change(joins::prepend(slots, q, values))
+    replies::of_change(extends::prepend(slots, q, values))
 }
 
 // Puts the values in front, the last of them first.
@@ -31,7 +31,7 @@ pub extern "C" fn scorebucket_prepend(slots: &mut [u32], q: Deque, values: &[u32
 pub extern "C" fn scorebucket_extend_front(slots: &mut [u32], q: Deque, values: &[u32]) -> Reply
     ensures { λ r. ⌜ (ofReply r, now (slots .exit)) ≡ toldInC (doRule (now (slots .entry)) (recOf q) (extendFront (now (values .entry)))) ⌝ }
 {
-    replies::of_change(joins::extend_front(slots, q, values))
+    replies::of_change(extends::extend_front(slots, q, values))
 }
 
 // Truncates to the first n elements, or appends copies of v up to n.
@@ -39,7 +39,7 @@ pub extern "C" fn scorebucket_extend_front(slots: &mut [u32], q: Deque, values: 
 pub extern "C" fn scorebucket_resize(slots: &mut [u32], q: Deque, n: usize, v: u32) -> Reply
     ensures { λ r. ⌜ (ofReply r, now (slots .exit)) ≡ toldInC (doRule (now (slots .entry)) (recOf q) (resize n v)) ⌝ }
 {
-    replies::of_change(joins::resize(slots, q, n, v))
+    replies::of_change(extends::resize(slots, q, n, v))
 }
 
 // Copies the other queue's elements behind ours, and empties the other.

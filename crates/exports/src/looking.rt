@@ -12,7 +12,7 @@ ghost use Rattle.queue.specs.Answers.{recOf};
 pub extern "C" fn scorebucket_get(slots: &[u32], q: Deque, i: usize) -> SeenReply
     ensures { λ r. ⌜ ofSeenReply r ≡ seenInC (lookAt (now (slots .entry)) (recOf q) (atPosition i)) ⌝ }
 {
-    replies::of_found(ends::get(slots, q, i))
+    replies::of_found(looks::get(slots, q, i))
 }
 
 // The first element.
@@ -20,7 +20,7 @@ pub extern "C" fn scorebucket_get(slots: &[u32], q: Deque, i: usize) -> SeenRepl
 pub extern "C" fn scorebucket_front(slots: &[u32], q: Deque) -> SeenReply
     ensures { λ r. ⌜ ofSeenReply r ≡ seenInC (lookAt (now (slots .entry)) (recOf q) (atPosition 0)) ⌝ }
 {
-    replies::of_found(ends::front(slots, q))
+    replies::of_found(looks::front(slots, q))
 }
 
 // The last element.
@@ -28,5 +28,5 @@ pub extern "C" fn scorebucket_front(slots: &[u32], q: Deque) -> SeenReply
 pub extern "C" fn scorebucket_back(slots: &[u32], q: Deque) -> SeenReply
     ensures { λ r. ⌜ ofSeenReply r ≡ seenInC (lookAt (now (slots .entry)) (recOf q) atBack) ⌝ }
 {
-    replies::of_found(ends::back(slots, q))
+    replies::of_found(looks::back(slots, q))
 }

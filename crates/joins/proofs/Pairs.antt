@@ -6,8 +6,8 @@ use mathlib.Core.Path.{_≡_, sym, _∙_, ap, refl}
 use Prim.Native.Nat.{ℕ, _+_, _-_, _≤_}
 use native.Mathlib.Omega.{arith}
 use lib.ListN.{length, drop, drop-of-length-le}
-use Rattle.joins.proofs.Asks.{appends}
-use Rattle.joins.proofs.Behind.{lay-behind}
+use Rattle.extends.proofs.Asks.{appends}
+use Rattle.extends.proofs.Behind.{lay-behind}
 use Rattle.queue.proofs.Checks.{failed-number}
 use Rattle.queue.proofs.Numbers.{some-number}
 use Rattle.queue.specs.Answers.{numberIn, numberOf}

@@ -1,15 +1,10 @@
-// The calls that join lists.
+// The calls on two queues.
 mod queues; // queues.rt: another queue's elements behind ours, and our later elements into a bare target
-mod values; // values.rt: a lent slice, or copies of one number
 
 use queue::Deque;
 use queue::Refusal;
 pub use queues::append;
 pub use queues::split_off;
-pub use values::extend;
-pub use values::extend_front;
-pub use values::prepend;
-pub use values::resize;
 
 // The answer of `append`. A refusal hands back the same records.
 pub enum Joined {

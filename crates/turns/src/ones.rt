@@ -36,10 +36,10 @@ fn make_edit(slots: &mut [u32], q: Deque, edit: Edit) -> Change
     match edit {
         Edit::PushBack(v) => ends::push_back(slots, q, v),
         Edit::PushFront(v) => ends::push_front(slots, q, v),
-        Edit::Truncate(n) => ends::truncate(slots, q, n),
-        Edit::TruncateFront(n) => ends::truncate_front(slots, q, n),
-        Edit::Clear => ends::clear(slots, q),
-        Edit::Resize(n, v) => joins::resize(slots, q, n, v),
+        Edit::Truncate(n) => cuts::truncate(slots, q, n),
+        Edit::TruncateFront(n) => cuts::truncate_front(slots, q, n),
+        Edit::Clear => cuts::clear(slots, q),
+        Edit::Resize(n, v) => extends::resize(slots, q, n, v),
         Edit::Insert(i, v) => middle::insert(slots, q, i, v),
         Edit::Swap(i, j) => swaps::swap(slots, q, i, j),
         Edit::Retain(test) => retains::retain(slots, q, test),
@@ -51,9 +51,9 @@ fn make_join(slots: &mut [u32], q: Deque, join: Join, values: &[u32]) -> Change
     ensures { λ r. ⌜ (ofChange r, now (slots .exit)) ≡ told (doRule (now (slots .entry)) (recOf q) (rule (joinOf join (now (values .entry))))) ⌝ }
 {
     match join {
-        Join::Extend => joins::extend(slots, q, values),
-        Join::Prepend => joins::prepend(slots, q, values),
-        Join::ExtendFront => joins::extend_front(slots, q, values),
+        Join::Extend => extends::extend(slots, q, values),
+        Join::Prepend => extends::prepend(slots, q, values),
+        Join::ExtendFront => extends::extend_front(slots, q, values),
         Join::Splice(start, end) => splices::splice(slots, q, start, end, values),
     }
 }

@@ -14,18 +14,18 @@ pub use queue::fresh;
 pub use conditions::Test;
 
 // The ends.
-pub use ends::back;
-pub use ends::clear;
-pub use ends::front;
-pub use ends::get;
+pub use looks::back;
+pub use cuts::clear;
+pub use looks::front;
+pub use looks::get;
 pub use ends::pop_back;
 pub use ends::pop_back_if;
 pub use ends::pop_front;
 pub use ends::pop_front_if;
 pub use ends::push_back;
 pub use ends::push_front;
-pub use ends::truncate;
-pub use ends::truncate_front;
+pub use cuts::truncate;
+pub use cuts::truncate_front;
 
 // An element in another's place.
 pub use swaps::swap;
@@ -41,10 +41,10 @@ pub use retains::retain;
 pub use joins::Joined;
 pub use joins::Split;
 pub use joins::append;
-pub use joins::extend;
-pub use joins::extend_front;
-pub use joins::prepend;
-pub use joins::resize;
+pub use extends::extend;
+pub use extends::extend_front;
+pub use extends::prepend;
+pub use extends::resize;
 pub use joins::split_off;
 
 // Drains and splices.

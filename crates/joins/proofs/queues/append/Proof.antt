@@ -4,11 +4,11 @@ use native.Mathlib.Omega.{arith}
 use borrow.Author.Needs.{needs}
 use denote.Ref.{now}
 use lib.ListN.{length}
-use Rattle.joins.proofs.Asks.{Appends, appends}
+use Rattle.extends.proofs.Asks.{Appends, appends}
 use Rattle.joins.proofs.Pairs.{append-refused, append-none, append-done}
 use Rattle.queue.proofs.Checks.{passed-zero, Fine, fine}
 use Rattle.queue.specs.Answers.{recOf}
-use Rattle.joins.proofs.Behind.{place-in}
+use Rattle.extends.proofs.Behind.{place-in}
 use Rattle.rules.specs.Pairs.{onAppending}
 use Rattle.joins.proofs.queues.append.Statement.{statement}
 use Rattle.joins.proofs.queues.append.Tie as tie

@@ -2,7 +2,7 @@
 use mathlib.Core.Path.{_≡_}
 use native.Mathlib.Omega.{arith}
 use borrow.Author.Needs.{needs}
-use Rattle.joins.proofs.Asks.{queue-refuses, queue-passes, slots-refuse, slots-pass, position-refuses, position-passes, room-refuses, room-passes}
+use Rattle.extends.proofs.Asks.{queue-refuses, queue-passes, slots-refuse, slots-pass, position-refuses, position-passes, room-refuses, room-passes}
 use Rattle.queue.proofs.Checks.{passed-zero}
 use Rattle.queue.specs.Answers.{recOf}
 use Rattle.rules.specs.Pairs.{onSplitting}

@@ -6,7 +6,7 @@ use mathlib.Core.Path.{_≡_}
 use native.Mathlib.Omega.{arith}
 use denote.Ref.{now}
 use lib.ListN.{length}
-use Rattle.joins.proofs.Asks.{Splits, splits}
+use Rattle.extends.proofs.Asks.{Splits, splits}
 use Rattle.joins.proofs.Pairs.{split-refused, split-none, split-done}
 use Rattle.queue.proofs.Checks.{passed-zero}
 use Rattle.queue.specs.Answers.{recOf}

@@ -1,0 +1,48 @@
+-- `ends::truncate` meets its contract. Assumes nothing.
+use mathlib.Core.Path.{_≡_}
+use borrow.Author.Needs.{needs}
+use denote.Ref.{now}
+use lib.ListN.{length}
+use Rattle.cuts.proofs.Laws.{all-kept, back-cut}
+use Rattle.queue.proofs.Checks.{passed-zero, told-first}
+use Rattle.queue.specs.Answers.{recOf}
+use Rattle.rules.specs.Refusals.{onQueue}
+use Rattle.cuts.proofs.truncate.Statement.{statement}
+use Rattle.cuts.proofs.truncate.Tie as tie
+
+-- past the first tests nothing is refused
+past : (c : tie.After-enum-told) → onQueue (length (now (c .before .before .before .before .args .slots))) (recOf (c .before .before .before .before .args .q)) 0 ≡ 0
+past c = passed-zero _ _ (c .before .before .check .ensures) (c .enum-told .given .1)
+
+check-requires : tie.Need-check-requires
+check-requires c κs = search needs
+
+enum-known-refusal : tie.Need-enum-known-refusal
+enum-known-refusal c = search needs
+
+returns : tie.Need-returns
+returns c = told-first _ _ _ (c .before .before .before .check .ensures) _ _ (c .before .refusal .given .1)
+
+enum-told : tie.Need-enum-told
+enum-told c = search needs
+
+returns-2 : tie.Need-returns-2
+returns-2 c = all-kept _ _ (past (c .before .before)) _ (c .if1 .taken)
+
+stepped-requires : tie.Need-stepped-requires
+stepped-requires c κs = search needs
+
+returns-3 : tie.Need-returns-3
+returns-3 c = back-cut _ _ (past (c .before .before .before)) _ _ (c .before .if1 .left) (c .stepped .ensures)
+
+pub truncate-spec : {M : Type 1} → statement M
+truncate-spec =
+    tie.close
+    (tie.spec
+    check-requires
+    enum-known-refusal
+    returns
+    enum-told
+    returns-2
+    stepped-requires
+    returns-3)
