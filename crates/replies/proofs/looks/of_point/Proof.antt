@@ -1,5 +1,5 @@
 -- `replies::looks::of_point` meets its contract. Assumes nothing.
-use mathlib.Core.Path.{_≡_, refl}
+use mathlib.Core.Path.{refl}
 use Rattle.replies.proofs.Arms.{arm, arm-refused}
 use Rattle.replies.specs.InC.{countInC}
 use Rattle.search.specs.Answers.{ofPoint}
