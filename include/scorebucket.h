@@ -5,15 +5,16 @@
  * a position past the end or a queue without room is refused, and never read or written past the slots.
  *
  * Memory: the slots are the caller's, and so is every other pointer. Nothing is allocated, freed or kept: a call uses its pointers until it returns.
- * The number of slots is the capacity, at most 16,000. A queue is its slots and a small record {head, len}, which goes in by value and comes back in the
- * answer; the caller puts the new record in the old one's place. Calls on different slots may run at the same time.
+ * The number of slots is the capacity, at most 16,000. A queue is its slots and a small record {head, len}: a call that changes it takes the record's address
+ * and changes it there, a call that only looks takes it by value. Calls on different slots and records may run at the same time.
  *
  * What a caller must see to, since no call can test it:
  *   - a pointer is not null (with length 0 it may point anywhere else), aligned for what it points to, and its length is no more than what stands there;
  *   - what is written by a call (a pointer without `const`) overlaps nothing else that is lent to the same call. Two `const` pointers may overlap;
- *   - while a drain is open, its queue's slots are used by that drain's calls alone; a drain is closed once.
+ *   - while a drain is open, its queue's slots are used by that drain's calls alone, and the queue's record by none; a drain is closed once.
  *
- * Answers: `refused` is 0, or the number of a refusal; refused, nothing was written, the records are the ones that went in, and all else is 0.
+ * Answers: `refused` is 0, or the number of a refusal; refused, slots and records are as they were, and all else is 0. Each answer but that of
+ * `slice_ranges` has two words, and comes back in registers.
  * `moved` says how many elements now stand in another slot. `handed` is 1 where `number` was handed over; where there was nothing, both are 0. */
 #ifndef SCOREBUCKET_H
 #define SCOREBUCKET_H
@@ -63,23 +64,11 @@ struct scorebucket_span {
     size_t start, end;
 };
 
-/* Of a call on one queue. */
+/* Of a call that changes a queue or makes one. */
 struct scorebucket_reply {
-    size_t refused, moved;
-    struct scorebucket_deque queue;
-    uint32_t handed, number;
-};
-
-/* Of a call that makes a record. */
-struct scorebucket_made_reply {
-    size_t refused, moved;
-    struct scorebucket_deque queue;
-};
-
-/* Of a call on two queues. */
-struct scorebucket_pair_reply {
-    size_t refused, moved;
-    struct scorebucket_deque queue, other;
+    uint16_t refused, handed;
+    uint32_t number;
+    size_t moved;
 };
 
 /* Of a look at one element: `seen` is 1 where `number` stands there, else both are 0. */
@@ -99,10 +88,10 @@ struct scorebucket_order_reply {
     size_t refused, order;
 };
 
-/* Of a search: the position where it was found, or where to insert it. */
+/* Of a search: `found` is 1 and `position` is where it stands, or 0 and where to insert it. */
 struct scorebucket_search_reply {
-    size_t refused, position;
-    bool found;
+    uint32_t refused, found;
+    size_t position;
 };
 
 /* A number of elements or of bytes. */
@@ -116,52 +105,25 @@ struct scorebucket_ranges_reply {
     struct scorebucket_span front, back;
 };
 
-/* Of the opening and the closing of a drain: while it is open, `drain` stands for the queue, and `queue` is 0, 0; else `drain` is all 0. */
-struct scorebucket_drain_reply {
-    size_t refused, moved;
-    struct scorebucket_deque queue;
-    struct scorebucket_drain drain;
-};
-
-/* Of a drain's `next` and `next_back`. */
-struct scorebucket_draw_reply {
-    size_t refused, moved;
-    struct scorebucket_drain drain;
-    uint32_t handed, number;
-};
-
-/* Of the beginning of a walk. */
-struct scorebucket_walk_reply {
-    size_t refused;
-    struct scorebucket_walk walk;
-};
-
-/* Of a step of a walk. */
-struct scorebucket_step_reply {
-    size_t refused;
-    struct scorebucket_walk walk;
-    uint32_t seen, number;
-};
-
 /* ---- the record */
 
 /* Makes an empty queue over lent slots. Refusal: 1. */
-struct scorebucket_made_reply scorebucket_fresh(const uint32_t *slots, size_t cap);
+struct scorebucket_reply scorebucket_fresh(const uint32_t *slots, size_t cap, struct scorebucket_deque *q);
 
 /* ---- the ends. Every call from here on refuses 1 and 2, but for image reading; more is said where there is more. */
 
 /* Appends v. Refusal: 4. */
-struct scorebucket_reply scorebucket_push_back(uint32_t *slots, size_t cap, struct scorebucket_deque q, uint32_t v);
+struct scorebucket_reply scorebucket_push_back(uint32_t *slots, size_t cap, struct scorebucket_deque *q, uint32_t v);
 /* Puts v in front. Refusal: 4. */
-struct scorebucket_reply scorebucket_push_front(uint32_t *slots, size_t cap, struct scorebucket_deque q, uint32_t v);
+struct scorebucket_reply scorebucket_push_front(uint32_t *slots, size_t cap, struct scorebucket_deque *q, uint32_t v);
 /* Hands the first element over. */
-struct scorebucket_reply scorebucket_pop_front(const uint32_t *slots, size_t cap, struct scorebucket_deque q);
+struct scorebucket_reply scorebucket_pop_front(const uint32_t *slots, size_t cap, struct scorebucket_deque *q);
 /* Hands the last element over. */
-struct scorebucket_reply scorebucket_pop_back(const uint32_t *slots, size_t cap, struct scorebucket_deque q);
+struct scorebucket_reply scorebucket_pop_back(const uint32_t *slots, size_t cap, struct scorebucket_deque *q);
 /* Hands the first element over, if it meets the test. Refusal: 3, for an unknown kind. */
-struct scorebucket_reply scorebucket_pop_front_if(const uint32_t *slots, size_t cap, struct scorebucket_deque q, uint32_t kind, uint32_t k);
+struct scorebucket_reply scorebucket_pop_front_if(const uint32_t *slots, size_t cap, struct scorebucket_deque *q, uint32_t kind, uint32_t k);
 /* Hands the last element over, if it meets the test. Refusal: 3, for an unknown kind. */
-struct scorebucket_reply scorebucket_pop_back_if(const uint32_t *slots, size_t cap, struct scorebucket_deque q, uint32_t kind, uint32_t k);
+struct scorebucket_reply scorebucket_pop_back_if(const uint32_t *slots, size_t cap, struct scorebucket_deque *q, uint32_t kind, uint32_t k);
 /* Looks at the element at position i. */
 struct scorebucket_seen_reply scorebucket_get(const uint32_t *slots, size_t cap, struct scorebucket_deque q, size_t i);
 /* Looks at the first element. */
@@ -169,68 +131,68 @@ struct scorebucket_seen_reply scorebucket_front(const uint32_t *slots, size_t ca
 /* Looks at the last element. */
 struct scorebucket_seen_reply scorebucket_back(const uint32_t *slots, size_t cap, struct scorebucket_deque q);
 /* Keeps the first n elements. */
-struct scorebucket_reply scorebucket_truncate(const uint32_t *slots, size_t cap, struct scorebucket_deque q, size_t n);
+struct scorebucket_reply scorebucket_truncate(const uint32_t *slots, size_t cap, struct scorebucket_deque *q, size_t n);
 /* Keeps the last n elements. */
-struct scorebucket_reply scorebucket_truncate_front(const uint32_t *slots, size_t cap, struct scorebucket_deque q, size_t n);
+struct scorebucket_reply scorebucket_truncate_front(const uint32_t *slots, size_t cap, struct scorebucket_deque *q, size_t n);
 /* Keeps no element, and starts anew at the first slot. */
-struct scorebucket_reply scorebucket_clear(const uint32_t *slots, size_t cap, struct scorebucket_deque q);
+struct scorebucket_reply scorebucket_clear(const uint32_t *slots, size_t cap, struct scorebucket_deque *q);
 
 /* ---- an element in another's place */
 
 /* Exchanges the elements at positions i and j. Refusal: 3. */
-struct scorebucket_reply scorebucket_swap(uint32_t *slots, size_t cap, struct scorebucket_deque q, size_t i, size_t j);
+struct scorebucket_reply scorebucket_swap(uint32_t *slots, size_t cap, struct scorebucket_deque *q, size_t i, size_t j);
 /* Hands the element at position i over, and puts the first one in its place. */
-struct scorebucket_reply scorebucket_swap_remove_front(uint32_t *slots, size_t cap, struct scorebucket_deque q, size_t i);
+struct scorebucket_reply scorebucket_swap_remove_front(uint32_t *slots, size_t cap, struct scorebucket_deque *q, size_t i);
 /* Hands the element at position i over, and puts the last one in its place. */
-struct scorebucket_reply scorebucket_swap_remove_back(uint32_t *slots, size_t cap, struct scorebucket_deque q, size_t i);
+struct scorebucket_reply scorebucket_swap_remove_back(uint32_t *slots, size_t cap, struct scorebucket_deque *q, size_t i);
 
 /* ---- the middle */
 
 /* Puts v at position i; the shorter side moves. Refusals: 3, 4. */
-struct scorebucket_reply scorebucket_insert(uint32_t *slots, size_t cap, struct scorebucket_deque q, size_t i, uint32_t v);
+struct scorebucket_reply scorebucket_insert(uint32_t *slots, size_t cap, struct scorebucket_deque *q, size_t i, uint32_t v);
 /* Hands the element at position i over; the shorter side moves. */
-struct scorebucket_reply scorebucket_remove(uint32_t *slots, size_t cap, struct scorebucket_deque q, size_t i);
+struct scorebucket_reply scorebucket_remove(uint32_t *slots, size_t cap, struct scorebucket_deque *q, size_t i);
 /* Keeps, in order, the elements that meet the test. Refusal: 3, for an unknown kind. */
-struct scorebucket_reply scorebucket_retain(uint32_t *slots, size_t cap, struct scorebucket_deque q, uint32_t kind, uint32_t k);
+struct scorebucket_reply scorebucket_retain(uint32_t *slots, size_t cap, struct scorebucket_deque *q, uint32_t kind, uint32_t k);
 
 /* ---- lent values, and other queues */
 
 /* Appends the n values. Refusal: 4. */
-struct scorebucket_reply scorebucket_extend(uint32_t *slots, size_t cap, struct scorebucket_deque q, const uint32_t *values, size_t n);
+struct scorebucket_reply scorebucket_extend(uint32_t *slots, size_t cap, struct scorebucket_deque *q, const uint32_t *values, size_t n);
 /* Puts the n values in front, in their order. Refusal: 4. */
-struct scorebucket_reply scorebucket_prepend(uint32_t *slots, size_t cap, struct scorebucket_deque q, const uint32_t *values, size_t n);
+struct scorebucket_reply scorebucket_prepend(uint32_t *slots, size_t cap, struct scorebucket_deque *q, const uint32_t *values, size_t n);
 /* Puts the n values in front, the last of them first. Refusal: 4. */
-struct scorebucket_reply scorebucket_extend_front(uint32_t *slots, size_t cap, struct scorebucket_deque q, const uint32_t *values, size_t n);
+struct scorebucket_reply scorebucket_extend_front(uint32_t *slots, size_t cap, struct scorebucket_deque *q, const uint32_t *values, size_t n);
 /* Truncates to the first n elements, or appends copies of v up to n. Refusal: 4. */
-struct scorebucket_reply scorebucket_resize(uint32_t *slots, size_t cap, struct scorebucket_deque q, size_t n, uint32_t v);
+struct scorebucket_reply scorebucket_resize(uint32_t *slots, size_t cap, struct scorebucket_deque *q, size_t n, uint32_t v);
 /* Copies the other queue's elements behind ours, and empties the other. Refusals: the other's 1 and 2, then 4. */
-struct scorebucket_pair_reply scorebucket_append(uint32_t *slots, size_t cap, struct scorebucket_deque q, const uint32_t *other_slots, size_t other_cap, struct scorebucket_deque other);
-/* Moves the elements from position `at` on into bare slots, whose record is `other`. Refusals: the target's 1, then 3, 4. */
-struct scorebucket_pair_reply scorebucket_split_off(const uint32_t *slots, size_t cap, struct scorebucket_deque q, size_t at, uint32_t *target, size_t target_cap);
+struct scorebucket_reply scorebucket_append(uint32_t *slots, size_t cap, struct scorebucket_deque *q, const uint32_t *other_slots, size_t other_cap, struct scorebucket_deque *other);
+/* Moves the elements from position `at` on into bare slots, and makes their record, *t. Refusals: the target's 1, then 3, 4. */
+struct scorebucket_reply scorebucket_split_off(const uint32_t *slots, size_t cap, struct scorebucket_deque *q, size_t at, uint32_t *target, size_t target_cap, struct scorebucket_deque *t);
 
 /* ---- drains, and splice */
 
-/* Opens a drain of the positions from start up to end. Refusal: 3. */
-struct scorebucket_drain_reply scorebucket_drain(const uint32_t *slots, size_t cap, struct scorebucket_deque q, size_t start, size_t end);
+/* Opens a drain of the positions from start up to end: *d stands for the queue until it is closed. *q stays, and has no meaning until then. Refusal: 3. */
+struct scorebucket_reply scorebucket_drain(const uint32_t *slots, size_t cap, const struct scorebucket_deque *q, size_t start, size_t end, struct scorebucket_drain *d);
 /* Hands the drain's first remaining element over. */
-struct scorebucket_draw_reply scorebucket_drain_next(const uint32_t *slots, size_t cap, struct scorebucket_drain d);
+struct scorebucket_reply scorebucket_drain_next(const uint32_t *slots, size_t cap, struct scorebucket_drain *d);
 /* Hands the drain's last remaining element over. */
-struct scorebucket_draw_reply scorebucket_drain_next_back(const uint32_t *slots, size_t cap, struct scorebucket_drain d);
+struct scorebucket_reply scorebucket_drain_next_back(const uint32_t *slots, size_t cap, struct scorebucket_drain *d);
 /* Closes the drain: what was not handed over leaves, the shorter side moves, and the queue is whole again. */
-struct scorebucket_drain_reply scorebucket_drain_close(uint32_t *slots, size_t cap, struct scorebucket_drain d);
+struct scorebucket_reply scorebucket_drain_close(uint32_t *slots, size_t cap, const struct scorebucket_drain *d, struct scorebucket_deque *q);
 /* Puts the n values in the place of the elements from start up to end. Refusals: 3, 4. */
-struct scorebucket_reply scorebucket_splice(uint32_t *slots, size_t cap, struct scorebucket_deque q, size_t start, size_t end, const uint32_t *values, size_t n);
+struct scorebucket_reply scorebucket_splice(uint32_t *slots, size_t cap, struct scorebucket_deque *q, size_t start, size_t end, const uint32_t *values, size_t n);
 
 /* ---- runs and walks */
 
 /* Gives the two runs of positions start..end: the elements of `front`, then those of `back`, as parts of the slots. Refusal: 3. */
 struct scorebucket_ranges_reply scorebucket_slice_ranges(const uint32_t *slots, size_t cap, struct scorebucket_deque q, size_t start, size_t end);
-/* Begins a walk over the whole list. */
-struct scorebucket_walk_reply scorebucket_begin_walk(const uint32_t *slots, size_t cap, struct scorebucket_deque q);
+/* Begins a walk over the whole list. Gives the refusal number, or 0. */
+size_t scorebucket_begin_walk(const uint32_t *slots, size_t cap, const struct scorebucket_deque *q, struct scorebucket_walk *w);
 /* Gives the element at the walk's low end, which steps on by one. */
-struct scorebucket_step_reply scorebucket_walk_next(const uint32_t *slots, size_t cap, struct scorebucket_walk w);
+struct scorebucket_seen_reply scorebucket_walk_next(const uint32_t *slots, size_t cap, struct scorebucket_walk *w);
 /* Gives the element before the walk's high end, which steps back by one. */
-struct scorebucket_step_reply scorebucket_walk_next_back(const uint32_t *slots, size_t cap, struct scorebucket_walk w);
+struct scorebucket_seen_reply scorebucket_walk_next_back(const uint32_t *slots, size_t cap, struct scorebucket_walk *w);
 
 /* ---- comparing and searching */
 
@@ -250,7 +212,12 @@ struct scorebucket_count_reply scorebucket_partition_point(const uint32_t *slots
 /* Writes the queue's image, 3 + 4 * len bytes, to the start of the target, and gives their number. Refusal: 4. */
 struct scorebucket_count_reply scorebucket_write_image(const uint32_t *slots, size_t cap, struct scorebucket_deque q, uint8_t *target, size_t n);
 /* Makes a queue from an image, in bare slots. Refusals: 1, 5, 4. */
-struct scorebucket_made_reply scorebucket_read_image(uint32_t *slots, size_t cap, const uint8_t *bytes, size_t n);
+struct scorebucket_reply scorebucket_read_image(uint32_t *slots, size_t cap, struct scorebucket_deque *q, const uint8_t *bytes, size_t n);
+
+/* ---- for benchmarks */
+
+/* Copies the n slots from src on to dst, which may overlap, and does nothing else. Gives 0, or 3 where one of the stretches is out of the slots. */
+size_t scorebucket_copy(uint32_t *slots, size_t cap, size_t src, size_t dst, size_t n);
 
 #ifdef __cplusplus
 }

@@ -15,27 +15,24 @@ impl<'q, 'a> Drain<'q, 'a> {
         start: usize,
         end: usize,
     ) -> Result<Drain<'q, 'a>, Refusal> {
-        let reply = raw::drain(queue.slots, queue.record, start, end);
-        Refusal::of(reply.refused)?;
-        Ok(Drain {
-            queue,
-            record: reply.drain,
-        })
+        let mut record = raw::Drain::default();
+        let reply = raw::drain(queue.slots, &queue.record, start, end, &mut record);
+        Refusal::of(reply.refused.into())?;
+        Ok(Drain { queue, record })
     }
+}
 
-    /// Takes what a step answers. No step is refused: the record was made by the opening, and the slots are borrowed since.
-    fn take(&mut self, reply: raw::DrawReply) -> Option<u32> {
-        self.record = reply.drain;
-        (reply.handed == 1).then_some(reply.number)
-    }
+/// What a step handed over. No step is refused: the record was made by the opening, and the slots are borrowed since.
+fn handed(reply: raw::Reply) -> Option<u32> {
+    (reply.handed == 1).then_some(reply.number)
 }
 
 impl Iterator for Drain<'_, '_> {
     type Item = u32;
 
+    #[inline]
     fn next(&mut self) -> Option<u32> {
-        let reply = raw::drain_next(self.queue.slots, self.record);
-        self.take(reply)
+        handed(raw::drain_next(self.queue.slots, &mut self.record))
     }
 
     fn size_hint(&self) -> (usize, Option<usize>) {
@@ -44,9 +41,9 @@ impl Iterator for Drain<'_, '_> {
 }
 
 impl DoubleEndedIterator for Drain<'_, '_> {
+    #[inline]
     fn next_back(&mut self) -> Option<u32> {
-        let reply = raw::drain_next_back(self.queue.slots, self.record);
-        self.take(reply)
+        handed(raw::drain_next_back(self.queue.slots, &mut self.record))
     }
 }
 
@@ -54,9 +51,8 @@ impl ExactSizeIterator for Drain<'_, '_> {}
 
 impl Drop for Drain<'_, '_> {
     fn drop(&mut self) {
-        let reply = raw::drain_close(self.queue.slots, self.record);
+        let reply = raw::drain_close(self.queue.slots, &self.record, &mut self.queue.record);
         if reply.refused == 0 {
-            self.queue.record = reply.queue;
             self.queue.moved = reply.moved;
         }
     }

@@ -11,27 +11,23 @@ pub struct Iter<'s> {
 
 impl<'s> Iter<'s> {
     pub(crate) fn begin(slots: &'s [u32], record: Record) -> Result<Iter<'s>, Refusal> {
-        let reply = raw::begin_walk(slots, record);
-        Refusal::of(reply.refused)?;
-        Ok(Iter {
-            slots,
-            walk: reply.walk,
-        })
+        let mut walk = raw::Walk::default();
+        Refusal::of(raw::begin_walk(slots, &record, &mut walk))?;
+        Ok(Iter { slots, walk })
     }
+}
 
-    /// Takes what a step answers. No step is refused: the walk was begun over these slots.
-    fn take(&mut self, reply: raw::StepReply) -> Option<u32> {
-        self.walk = reply.walk;
-        (reply.seen == 1).then_some(reply.number)
-    }
+/// What a step gave. No step is refused: the walk was begun over these slots.
+fn given(reply: raw::SeenReply) -> Option<u32> {
+    (reply.seen == 1).then_some(reply.number)
 }
 
 impl Iterator for Iter<'_> {
     type Item = u32;
 
+    #[inline]
     fn next(&mut self) -> Option<u32> {
-        let reply = raw::walk_next(self.slots, self.walk);
-        self.take(reply)
+        given(raw::walk_next(self.slots, &mut self.walk))
     }
 
     fn size_hint(&self) -> (usize, Option<usize>) {
@@ -41,9 +37,9 @@ impl Iterator for Iter<'_> {
 }
 
 impl DoubleEndedIterator for Iter<'_> {
+    #[inline]
     fn next_back(&mut self) -> Option<u32> {
-        let reply = raw::walk_next_back(self.slots, self.walk);
-        self.take(reply)
+        given(raw::walk_next_back(self.slots, &mut self.walk))
     }
 }
 

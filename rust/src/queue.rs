@@ -13,12 +13,18 @@ pub struct Queue<'a> {
 impl<'a> Queue<'a> {
     /// An empty queue.
     pub fn new(slots: &'a mut [u32]) -> Result<Queue<'a>, Refusal> {
-        Queue::made(raw::fresh(slots), slots)
+        let mut record = Record::default();
+        let reply = raw::fresh(slots, &mut record);
+        Refusal::of(reply.refused.into())?;
+        Ok(Queue::with_record(slots, record))
     }
 
     /// The queue that a saved image holds, from the first slot on.
     pub fn read_image(slots: &'a mut [u32], bytes: &[u8]) -> Result<Queue<'a>, Refusal> {
-        Queue::made(raw::read_image(slots, bytes), slots)
+        let mut record = Record::default();
+        let reply = raw::read_image(slots, &mut record, bytes);
+        Refusal::of(reply.refused.into())?;
+        Ok(Queue::with_record(slots, record))
     }
 
     /// A queue whose elements stand in the slots already. Any record may be given: one that is not good is refused by each call.
@@ -30,50 +36,52 @@ impl<'a> Queue<'a> {
         }
     }
 
-    fn made(reply: raw::MadeReply, slots: &'a mut [u32]) -> Result<Queue<'a>, Refusal> {
-        Refusal::of(reply.refused)?;
-        Ok(Queue::with_record(slots, reply.queue))
-    }
-
     /// How many elements it holds.
+    #[inline]
     pub fn len(&self) -> usize {
         self.record.len
     }
 
     /// Whether it holds none.
+    #[inline]
     pub fn is_empty(&self) -> bool {
         self.record.len == 0
     }
 
     /// How many it can hold: the number of its slots.
+    #[inline]
     pub fn capacity(&self) -> usize {
         self.slots.len()
     }
 
     /// The record. With the slots it is the whole queue.
+    #[inline]
     pub fn record(&self) -> Record {
         self.record
     }
 
     /// All slots, those without an element too.
+    #[inline]
     pub fn slots(&self) -> &[u32] {
         self.slots
     }
 
     /// How many elements stand in another slot than before the last call that changed the queue.
+    #[inline]
     pub fn moved(&self) -> usize {
         self.moved
     }
 
-    /// Takes what a call on this queue answers.
+    /// Takes what a call on this queue answers beside its record.
+    #[inline]
     pub(crate) fn take(&mut self, reply: raw::Reply) -> Result<Option<u32>, Refusal> {
-        Refusal::of(reply.refused)?;
-        self.record = reply.queue;
+        Refusal::of(reply.refused.into())?;
         self.moved = reply.moved;
         Ok((reply.handed == 1).then_some(reply.number))
     }
 
     /// Takes what a call answers that hands nothing over.
+    #[inline]
     pub(crate) fn take_change(&mut self, reply: raw::Reply) -> Result<(), Refusal> {
         self.take(reply).map(|_| ())
     }

@@ -1,7 +1,7 @@
 //! The exported calls as they are, and over each a safe function that lends it slices. The only file with `unsafe`.
 //!
-//! Why the functions are safe: each exported call is proved for any slots, record and numbers; a slice is never null, is aligned and as long as it says; and what a
-//! call writes comes as `&mut`, so that nothing else in the call overlaps it. The structs are those of `include/scorebucket.h`.
+//! Why the functions are safe: each exported call is proved for any slots, record and numbers; a slice or a reference is never null, is aligned and as long as it says; and
+//! what a call writes comes as `&mut`, so that nothing else in the call overlaps it. The structs are those of `include/scorebucket.h`.
 
 /// The record of a queue: element i stands `i` slots on from `head`, round the end.
 #[repr(C)]
@@ -15,7 +15,7 @@ pub struct Record {
 
 /// The record of an open drain.
 #[repr(C)]
-#[derive(Clone, Copy)]
+#[derive(Clone, Copy, Default)]
 pub(crate) struct Drain {
     pub head: usize,
     pub start: usize,
@@ -27,7 +27,7 @@ pub(crate) struct Drain {
 
 /// A walk by value.
 #[repr(C)]
-#[derive(Clone, Copy)]
+#[derive(Clone, Copy, Default)]
 pub(crate) struct Walk {
     pub queue: Record,
     pub low: usize,
@@ -42,34 +42,14 @@ pub(crate) struct Span {
     pub end: usize,
 }
 
-/// Of a call on one queue.
+/// Of a call that changes a queue or makes one.
 #[repr(C)]
 #[derive(Clone, Copy)]
 pub(crate) struct Reply {
-    pub refused: usize,
-    pub moved: usize,
-    pub queue: Record,
-    pub handed: u32,
+    pub refused: u16,
+    pub handed: u16,
     pub number: u32,
-}
-
-/// Of a call that makes a record.
-#[repr(C)]
-#[derive(Clone, Copy)]
-pub(crate) struct MadeReply {
-    pub refused: usize,
     pub moved: usize,
-    pub queue: Record,
-}
-
-/// Of a call on two queues.
-#[repr(C)]
-#[derive(Clone, Copy)]
-pub(crate) struct PairReply {
-    pub refused: usize,
-    pub moved: usize,
-    pub queue: Record,
-    pub other: Record,
 }
 
 /// Of a look at one element.
@@ -101,9 +81,9 @@ pub(crate) struct OrderReply {
 #[repr(C)]
 #[derive(Clone, Copy)]
 pub(crate) struct SearchReply {
-    pub refused: usize,
+    pub refused: u32,
+    pub found: u32,
     pub position: usize,
-    pub found: bool,
 }
 
 /// A number of elements or of bytes.
@@ -123,71 +103,36 @@ pub(crate) struct RangesReply {
     pub back: Span,
 }
 
-/// Of the opening and the closing of a drain.
-#[repr(C)]
-#[derive(Clone, Copy)]
-pub(crate) struct DrainReply {
-    pub refused: usize,
-    pub moved: usize,
-    pub queue: Record,
-    pub drain: Drain,
-}
-
-/// Of a drain's `next` and `next_back`.
-#[repr(C)]
-#[derive(Clone, Copy)]
-pub(crate) struct DrawReply {
-    pub refused: usize,
-    pub moved: usize,
-    pub drain: Drain,
-    pub handed: u32,
-    pub number: u32,
-}
-
-/// Of the beginning of a walk.
-#[repr(C)]
-#[derive(Clone, Copy)]
-pub(crate) struct WalkReply {
-    pub refused: usize,
-    pub walk: Walk,
-}
-
-/// Of a step of a walk.
-#[repr(C)]
-#[derive(Clone, Copy)]
-pub(crate) struct StepReply {
-    pub refused: usize,
-    pub walk: Walk,
-    pub seen: u32,
-    pub number: u32,
-}
-
 mod exported {
     use super::*;
 
     extern "C" {
-        pub fn scorebucket_fresh(slots: *const u32, slots_len: usize) -> MadeReply;
-        pub fn scorebucket_push_back(slots: *mut u32, slots_len: usize, q: Record, v: u32)
-            -> Reply;
+        pub fn scorebucket_fresh(slots: *const u32, slots_len: usize, q: *mut Record) -> Reply;
+        pub fn scorebucket_push_back(
+            slots: *mut u32,
+            slots_len: usize,
+            q: *mut Record,
+            v: u32,
+        ) -> Reply;
         pub fn scorebucket_push_front(
             slots: *mut u32,
             slots_len: usize,
-            q: Record,
+            q: *mut Record,
             v: u32,
         ) -> Reply;
-        pub fn scorebucket_pop_front(slots: *const u32, slots_len: usize, q: Record) -> Reply;
-        pub fn scorebucket_pop_back(slots: *const u32, slots_len: usize, q: Record) -> Reply;
+        pub fn scorebucket_pop_front(slots: *const u32, slots_len: usize, q: *mut Record) -> Reply;
+        pub fn scorebucket_pop_back(slots: *const u32, slots_len: usize, q: *mut Record) -> Reply;
         pub fn scorebucket_pop_front_if(
             slots: *const u32,
             slots_len: usize,
-            q: Record,
+            q: *mut Record,
             kind: u32,
             k: u32,
         ) -> Reply;
         pub fn scorebucket_pop_back_if(
             slots: *const u32,
             slots_len: usize,
-            q: Record,
+            q: *mut Record,
             kind: u32,
             k: u32,
         ) -> Reply;
@@ -202,112 +147,124 @@ mod exported {
         pub fn scorebucket_truncate(
             slots: *const u32,
             slots_len: usize,
-            q: Record,
+            q: *mut Record,
             n: usize,
         ) -> Reply;
         pub fn scorebucket_truncate_front(
             slots: *const u32,
             slots_len: usize,
-            q: Record,
+            q: *mut Record,
             n: usize,
         ) -> Reply;
-        pub fn scorebucket_clear(slots: *const u32, slots_len: usize, q: Record) -> Reply;
+        pub fn scorebucket_clear(slots: *const u32, slots_len: usize, q: *mut Record) -> Reply;
         pub fn scorebucket_swap(
             slots: *mut u32,
             slots_len: usize,
-            q: Record,
+            q: *mut Record,
             i: usize,
             j: usize,
         ) -> Reply;
         pub fn scorebucket_swap_remove_front(
             slots: *mut u32,
             slots_len: usize,
-            q: Record,
+            q: *mut Record,
             i: usize,
         ) -> Reply;
         pub fn scorebucket_swap_remove_back(
             slots: *mut u32,
             slots_len: usize,
-            q: Record,
+            q: *mut Record,
             i: usize,
         ) -> Reply;
         pub fn scorebucket_insert(
             slots: *mut u32,
             slots_len: usize,
-            q: Record,
+            q: *mut Record,
             i: usize,
             v: u32,
         ) -> Reply;
-        pub fn scorebucket_remove(slots: *mut u32, slots_len: usize, q: Record, i: usize) -> Reply;
+        pub fn scorebucket_remove(
+            slots: *mut u32,
+            slots_len: usize,
+            q: *mut Record,
+            i: usize,
+        ) -> Reply;
         pub fn scorebucket_retain(
             slots: *mut u32,
             slots_len: usize,
-            q: Record,
+            q: *mut Record,
             kind: u32,
             k: u32,
         ) -> Reply;
         pub fn scorebucket_extend(
             slots: *mut u32,
             slots_len: usize,
-            q: Record,
+            q: *mut Record,
             values: *const u32,
             values_len: usize,
         ) -> Reply;
         pub fn scorebucket_prepend(
             slots: *mut u32,
             slots_len: usize,
-            q: Record,
+            q: *mut Record,
             values: *const u32,
             values_len: usize,
         ) -> Reply;
         pub fn scorebucket_extend_front(
             slots: *mut u32,
             slots_len: usize,
-            q: Record,
+            q: *mut Record,
             values: *const u32,
             values_len: usize,
         ) -> Reply;
         pub fn scorebucket_resize(
             slots: *mut u32,
             slots_len: usize,
-            q: Record,
+            q: *mut Record,
             n: usize,
             v: u32,
         ) -> Reply;
         pub fn scorebucket_append(
             slots: *mut u32,
             slots_len: usize,
-            q: Record,
+            q: *mut Record,
             other_slots: *const u32,
             other_slots_len: usize,
-            other: Record,
-        ) -> PairReply;
+            other: *mut Record,
+        ) -> Reply;
         pub fn scorebucket_split_off(
             slots: *const u32,
             slots_len: usize,
-            q: Record,
+            q: *mut Record,
             at: usize,
             target: *mut u32,
             target_len: usize,
-        ) -> PairReply;
+            t: *mut Record,
+        ) -> Reply;
         pub fn scorebucket_drain(
             slots: *const u32,
             slots_len: usize,
-            q: Record,
+            q: *const Record,
             start: usize,
             end: usize,
-        ) -> DrainReply;
-        pub fn scorebucket_drain_next(slots: *const u32, slots_len: usize, d: Drain) -> DrawReply;
+            d: *mut Drain,
+        ) -> Reply;
+        pub fn scorebucket_drain_next(slots: *const u32, slots_len: usize, d: *mut Drain) -> Reply;
         pub fn scorebucket_drain_next_back(
             slots: *const u32,
             slots_len: usize,
-            d: Drain,
-        ) -> DrawReply;
-        pub fn scorebucket_drain_close(slots: *mut u32, slots_len: usize, d: Drain) -> DrainReply;
+            d: *mut Drain,
+        ) -> Reply;
+        pub fn scorebucket_drain_close(
+            slots: *mut u32,
+            slots_len: usize,
+            d: *const Drain,
+            q: *mut Record,
+        ) -> Reply;
         pub fn scorebucket_splice(
             slots: *mut u32,
             slots_len: usize,
-            q: Record,
+            q: *mut Record,
             start: usize,
             end: usize,
             values: *const u32,
@@ -320,13 +277,22 @@ mod exported {
             start: usize,
             end: usize,
         ) -> RangesReply;
-        pub fn scorebucket_begin_walk(slots: *const u32, slots_len: usize, q: Record) -> WalkReply;
-        pub fn scorebucket_walk_next(slots: *const u32, slots_len: usize, w: Walk) -> StepReply;
+        pub fn scorebucket_begin_walk(
+            slots: *const u32,
+            slots_len: usize,
+            q: *const Record,
+            w: *mut Walk,
+        ) -> usize;
+        pub fn scorebucket_walk_next(
+            slots: *const u32,
+            slots_len: usize,
+            w: *mut Walk,
+        ) -> SeenReply;
         pub fn scorebucket_walk_next_back(
             slots: *const u32,
             slots_len: usize,
-            w: Walk,
-        ) -> StepReply;
+            w: *mut Walk,
+        ) -> SeenReply;
         pub fn scorebucket_contains(
             slots: *const u32,
             slots_len: usize,
@@ -372,89 +338,110 @@ mod exported {
         pub fn scorebucket_read_image(
             slots: *mut u32,
             slots_len: usize,
+            q: *mut Record,
             bytes: *const u8,
             bytes_len: usize,
-        ) -> MadeReply;
+        ) -> Reply;
     }
 }
 
-pub(crate) fn fresh(slots: &[u32]) -> MadeReply {
-    unsafe { exported::scorebucket_fresh(slots.as_ptr(), slots.len()) }
+#[inline]
+pub(crate) fn fresh(slots: &[u32], q: &mut Record) -> Reply {
+    unsafe { exported::scorebucket_fresh(slots.as_ptr(), slots.len(), q) }
 }
 
-pub(crate) fn push_back(slots: &mut [u32], q: Record, v: u32) -> Reply {
+#[inline]
+pub(crate) fn push_back(slots: &mut [u32], q: &mut Record, v: u32) -> Reply {
     unsafe { exported::scorebucket_push_back(slots.as_mut_ptr(), slots.len(), q, v) }
 }
 
-pub(crate) fn push_front(slots: &mut [u32], q: Record, v: u32) -> Reply {
+#[inline]
+pub(crate) fn push_front(slots: &mut [u32], q: &mut Record, v: u32) -> Reply {
     unsafe { exported::scorebucket_push_front(slots.as_mut_ptr(), slots.len(), q, v) }
 }
 
-pub(crate) fn pop_front(slots: &[u32], q: Record) -> Reply {
+#[inline]
+pub(crate) fn pop_front(slots: &[u32], q: &mut Record) -> Reply {
     unsafe { exported::scorebucket_pop_front(slots.as_ptr(), slots.len(), q) }
 }
 
-pub(crate) fn pop_back(slots: &[u32], q: Record) -> Reply {
+#[inline]
+pub(crate) fn pop_back(slots: &[u32], q: &mut Record) -> Reply {
     unsafe { exported::scorebucket_pop_back(slots.as_ptr(), slots.len(), q) }
 }
 
-pub(crate) fn pop_front_if(slots: &[u32], q: Record, kind: u32, k: u32) -> Reply {
+#[inline]
+pub(crate) fn pop_front_if(slots: &[u32], q: &mut Record, kind: u32, k: u32) -> Reply {
     unsafe { exported::scorebucket_pop_front_if(slots.as_ptr(), slots.len(), q, kind, k) }
 }
 
-pub(crate) fn pop_back_if(slots: &[u32], q: Record, kind: u32, k: u32) -> Reply {
+#[inline]
+pub(crate) fn pop_back_if(slots: &[u32], q: &mut Record, kind: u32, k: u32) -> Reply {
     unsafe { exported::scorebucket_pop_back_if(slots.as_ptr(), slots.len(), q, kind, k) }
 }
 
+#[inline]
 pub(crate) fn get(slots: &[u32], q: Record, i: usize) -> SeenReply {
     unsafe { exported::scorebucket_get(slots.as_ptr(), slots.len(), q, i) }
 }
 
+#[inline]
 pub(crate) fn front(slots: &[u32], q: Record) -> SeenReply {
     unsafe { exported::scorebucket_front(slots.as_ptr(), slots.len(), q) }
 }
 
+#[inline]
 pub(crate) fn back(slots: &[u32], q: Record) -> SeenReply {
     unsafe { exported::scorebucket_back(slots.as_ptr(), slots.len(), q) }
 }
 
-pub(crate) fn truncate(slots: &[u32], q: Record, n: usize) -> Reply {
+#[inline]
+pub(crate) fn truncate(slots: &[u32], q: &mut Record, n: usize) -> Reply {
     unsafe { exported::scorebucket_truncate(slots.as_ptr(), slots.len(), q, n) }
 }
 
-pub(crate) fn truncate_front(slots: &[u32], q: Record, n: usize) -> Reply {
+#[inline]
+pub(crate) fn truncate_front(slots: &[u32], q: &mut Record, n: usize) -> Reply {
     unsafe { exported::scorebucket_truncate_front(slots.as_ptr(), slots.len(), q, n) }
 }
 
-pub(crate) fn clear(slots: &[u32], q: Record) -> Reply {
+#[inline]
+pub(crate) fn clear(slots: &[u32], q: &mut Record) -> Reply {
     unsafe { exported::scorebucket_clear(slots.as_ptr(), slots.len(), q) }
 }
 
-pub(crate) fn swap(slots: &mut [u32], q: Record, i: usize, j: usize) -> Reply {
+#[inline]
+pub(crate) fn swap(slots: &mut [u32], q: &mut Record, i: usize, j: usize) -> Reply {
     unsafe { exported::scorebucket_swap(slots.as_mut_ptr(), slots.len(), q, i, j) }
 }
 
-pub(crate) fn swap_remove_front(slots: &mut [u32], q: Record, i: usize) -> Reply {
+#[inline]
+pub(crate) fn swap_remove_front(slots: &mut [u32], q: &mut Record, i: usize) -> Reply {
     unsafe { exported::scorebucket_swap_remove_front(slots.as_mut_ptr(), slots.len(), q, i) }
 }
 
-pub(crate) fn swap_remove_back(slots: &mut [u32], q: Record, i: usize) -> Reply {
+#[inline]
+pub(crate) fn swap_remove_back(slots: &mut [u32], q: &mut Record, i: usize) -> Reply {
     unsafe { exported::scorebucket_swap_remove_back(slots.as_mut_ptr(), slots.len(), q, i) }
 }
 
-pub(crate) fn insert(slots: &mut [u32], q: Record, i: usize, v: u32) -> Reply {
+#[inline]
+pub(crate) fn insert(slots: &mut [u32], q: &mut Record, i: usize, v: u32) -> Reply {
     unsafe { exported::scorebucket_insert(slots.as_mut_ptr(), slots.len(), q, i, v) }
 }
 
-pub(crate) fn remove(slots: &mut [u32], q: Record, i: usize) -> Reply {
+#[inline]
+pub(crate) fn remove(slots: &mut [u32], q: &mut Record, i: usize) -> Reply {
     unsafe { exported::scorebucket_remove(slots.as_mut_ptr(), slots.len(), q, i) }
 }
 
-pub(crate) fn retain(slots: &mut [u32], q: Record, kind: u32, k: u32) -> Reply {
+#[inline]
+pub(crate) fn retain(slots: &mut [u32], q: &mut Record, kind: u32, k: u32) -> Reply {
     unsafe { exported::scorebucket_retain(slots.as_mut_ptr(), slots.len(), q, kind, k) }
 }
 
-pub(crate) fn extend(slots: &mut [u32], q: Record, values: &[u32]) -> Reply {
+#[inline]
+pub(crate) fn extend(slots: &mut [u32], q: &mut Record, values: &[u32]) -> Reply {
     unsafe {
         exported::scorebucket_extend(
             slots.as_mut_ptr(),
@@ -466,7 +453,8 @@ pub(crate) fn extend(slots: &mut [u32], q: Record, values: &[u32]) -> Reply {
     }
 }
 
-pub(crate) fn prepend(slots: &mut [u32], q: Record, values: &[u32]) -> Reply {
+#[inline]
+pub(crate) fn prepend(slots: &mut [u32], q: &mut Record, values: &[u32]) -> Reply {
     unsafe {
         exported::scorebucket_prepend(
             slots.as_mut_ptr(),
@@ -478,7 +466,8 @@ pub(crate) fn prepend(slots: &mut [u32], q: Record, values: &[u32]) -> Reply {
     }
 }
 
-pub(crate) fn extend_front(slots: &mut [u32], q: Record, values: &[u32]) -> Reply {
+#[inline]
+pub(crate) fn extend_front(slots: &mut [u32], q: &mut Record, values: &[u32]) -> Reply {
     unsafe {
         exported::scorebucket_extend_front(
             slots.as_mut_ptr(),
@@ -490,16 +479,18 @@ pub(crate) fn extend_front(slots: &mut [u32], q: Record, values: &[u32]) -> Repl
     }
 }
 
-pub(crate) fn resize(slots: &mut [u32], q: Record, n: usize, v: u32) -> Reply {
+#[inline]
+pub(crate) fn resize(slots: &mut [u32], q: &mut Record, n: usize, v: u32) -> Reply {
     unsafe { exported::scorebucket_resize(slots.as_mut_ptr(), slots.len(), q, n, v) }
 }
 
+#[inline]
 pub(crate) fn append(
     slots: &mut [u32],
-    q: Record,
+    q: &mut Record,
     other_slots: &[u32],
-    other: Record,
-) -> PairReply {
+    other: &mut Record,
+) -> Reply {
     unsafe {
         exported::scorebucket_append(
             slots.as_mut_ptr(),
@@ -512,7 +503,14 @@ pub(crate) fn append(
     }
 }
 
-pub(crate) fn split_off(slots: &[u32], q: Record, at: usize, target: &mut [u32]) -> PairReply {
+#[inline]
+pub(crate) fn split_off(
+    slots: &[u32],
+    q: &mut Record,
+    at: usize,
+    target: &mut [u32],
+    t: &mut Record,
+) -> Reply {
     unsafe {
         exported::scorebucket_split_off(
             slots.as_ptr(),
@@ -521,29 +519,35 @@ pub(crate) fn split_off(slots: &[u32], q: Record, at: usize, target: &mut [u32])
             at,
             target.as_mut_ptr(),
             target.len(),
+            t,
         )
     }
 }
 
-pub(crate) fn drain(slots: &[u32], q: Record, start: usize, end: usize) -> DrainReply {
-    unsafe { exported::scorebucket_drain(slots.as_ptr(), slots.len(), q, start, end) }
+#[inline]
+pub(crate) fn drain(slots: &[u32], q: &Record, start: usize, end: usize, d: &mut Drain) -> Reply {
+    unsafe { exported::scorebucket_drain(slots.as_ptr(), slots.len(), q, start, end, d) }
 }
 
-pub(crate) fn drain_next(slots: &[u32], d: Drain) -> DrawReply {
+#[inline]
+pub(crate) fn drain_next(slots: &[u32], d: &mut Drain) -> Reply {
     unsafe { exported::scorebucket_drain_next(slots.as_ptr(), slots.len(), d) }
 }
 
-pub(crate) fn drain_next_back(slots: &[u32], d: Drain) -> DrawReply {
+#[inline]
+pub(crate) fn drain_next_back(slots: &[u32], d: &mut Drain) -> Reply {
     unsafe { exported::scorebucket_drain_next_back(slots.as_ptr(), slots.len(), d) }
 }
 
-pub(crate) fn drain_close(slots: &mut [u32], d: Drain) -> DrainReply {
-    unsafe { exported::scorebucket_drain_close(slots.as_mut_ptr(), slots.len(), d) }
+#[inline]
+pub(crate) fn drain_close(slots: &mut [u32], d: &Drain, q: &mut Record) -> Reply {
+    unsafe { exported::scorebucket_drain_close(slots.as_mut_ptr(), slots.len(), d, q) }
 }
 
+#[inline]
 pub(crate) fn splice(
     slots: &mut [u32],
-    q: Record,
+    q: &mut Record,
     start: usize,
     end: usize,
     values: &[u32],
@@ -561,26 +565,32 @@ pub(crate) fn splice(
     }
 }
 
+#[inline]
 pub(crate) fn slice_ranges(slots: &[u32], q: Record, start: usize, end: usize) -> RangesReply {
     unsafe { exported::scorebucket_slice_ranges(slots.as_ptr(), slots.len(), q, start, end) }
 }
 
-pub(crate) fn begin_walk(slots: &[u32], q: Record) -> WalkReply {
-    unsafe { exported::scorebucket_begin_walk(slots.as_ptr(), slots.len(), q) }
+#[inline]
+pub(crate) fn begin_walk(slots: &[u32], q: &Record, w: &mut Walk) -> usize {
+    unsafe { exported::scorebucket_begin_walk(slots.as_ptr(), slots.len(), q, w) }
 }
 
-pub(crate) fn walk_next(slots: &[u32], w: Walk) -> StepReply {
+#[inline]
+pub(crate) fn walk_next(slots: &[u32], w: &mut Walk) -> SeenReply {
     unsafe { exported::scorebucket_walk_next(slots.as_ptr(), slots.len(), w) }
 }
 
-pub(crate) fn walk_next_back(slots: &[u32], w: Walk) -> StepReply {
+#[inline]
+pub(crate) fn walk_next_back(slots: &[u32], w: &mut Walk) -> SeenReply {
     unsafe { exported::scorebucket_walk_next_back(slots.as_ptr(), slots.len(), w) }
 }
 
+#[inline]
 pub(crate) fn contains(slots: &[u32], q: Record, x: u32) -> TruthReply {
     unsafe { exported::scorebucket_contains(slots.as_ptr(), slots.len(), q, x) }
 }
 
+#[inline]
 pub(crate) fn eq(slots: &[u32], q: Record, other_slots: &[u32], other: Record) -> TruthReply {
     unsafe {
         exported::scorebucket_eq(
@@ -594,6 +604,7 @@ pub(crate) fn eq(slots: &[u32], q: Record, other_slots: &[u32], other: Record) -
     }
 }
 
+#[inline]
 pub(crate) fn cmp(slots: &[u32], q: Record, other_slots: &[u32], other: Record) -> OrderReply {
     unsafe {
         exported::scorebucket_cmp(
@@ -607,14 +618,17 @@ pub(crate) fn cmp(slots: &[u32], q: Record, other_slots: &[u32], other: Record) 
     }
 }
 
+#[inline]
 pub(crate) fn binary_search(slots: &[u32], q: Record, x: u32) -> SearchReply {
     unsafe { exported::scorebucket_binary_search(slots.as_ptr(), slots.len(), q, x) }
 }
 
+#[inline]
 pub(crate) fn partition_point(slots: &[u32], q: Record, kind: u32, k: u32) -> CountReply {
     unsafe { exported::scorebucket_partition_point(slots.as_ptr(), slots.len(), q, kind, k) }
 }
 
+#[inline]
 pub(crate) fn write_image(slots: &[u32], q: Record, target: &mut [u8]) -> CountReply {
     unsafe {
         exported::scorebucket_write_image(
@@ -627,11 +641,13 @@ pub(crate) fn write_image(slots: &[u32], q: Record, target: &mut [u8]) -> CountR
     }
 }
 
-pub(crate) fn read_image(slots: &mut [u32], bytes: &[u8]) -> MadeReply {
+#[inline]
+pub(crate) fn read_image(slots: &mut [u32], q: &mut Record, bytes: &[u8]) -> Reply {
     unsafe {
         exported::scorebucket_read_image(
             slots.as_mut_ptr(),
             slots.len(),
+            q,
             bytes.as_ptr(),
             bytes.len(),
         )

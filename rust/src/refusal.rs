@@ -19,6 +19,7 @@ pub enum Refusal {
 
 impl Refusal {
     /// Ok where a call was accepted.
+    #[inline]
     pub(crate) fn of(number: usize) -> Result<(), Refusal> {
         match number {
             0 => Ok(()),

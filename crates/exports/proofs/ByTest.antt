@@ -8,14 +8,14 @@ use borrow.Author.Tests.{ne-eqb}
 use lib.ListN.{length}
 use Rattle.conditions.specs.Tests.{testOf}
 use Rattle.conditions.specs.declared.Test.{Test as Asking}
-use Rattle.replies.specs.InC.{answerInC, countInC, toldInC}
+use Rattle.replies.specs.InC.{Said, said, countInC, toldInC}
 use Rattle.rules.specs.Conditions.{Test}
-use Rattle.rules.specs.Outcome.{Held, doRule, unchanged}
+use Rattle.rules.specs.Outcome.{Held, shut, doRule, unchanged}
 use Rattle.rules.specs.Records.{Rec}
 use Rattle.rules.specs.Rule.{Rule}
 use Rattle.rules.specs.Search.{partitionBy}
 use Rattle.rules.specs.Tests.{whether}
-use Rattle.exports.specs.Kinds.{testIn, ofAsked, noSuchTest, noSuchPoint, doTested, partitionTested}
+use Rattle.exports.specs.Kinds.{testIn, ofAsked, refusedKind, noSuchPoint, doTested, partitionTested}
 use Rattle.exports.specs.declared.kinds.Asked.{Asked}
 use Rattle.exports.specs.declared.kinds.Asked.the-variants.{For, Unknown}
 
@@ -26,7 +26,7 @@ no-other kind k n1 n2 n3 n4 = rw (ne-eqb kind 1 n1, ne-eqb kind 2 n2, ne-eqb kin
 
 module _ (b : List ℕ) (r : Rec) (a : Asked) (o : Option Test) (told : ofAsked a ≡ o) where
   -- the kind has a test
-  pub by-test : (R : Test → Rule) (x : Asking) (p : (ℕ × (ℕ × Held × (ℕ × ℕ))) × List ℕ) → a ≡ For x → p ≡ toldInC (doRule b r (R (testOf x))) → p ≡ toldInC (doTested b r o R)
+  pub by-test : (R : Test → Rule) (x : Asking) (p : Said × Held × List ℕ) → a ≡ For x → p ≡ toldInC (doRule b r (R (testOf x))) → p ≡ toldInC (doTested b r o R)
   unfolding doTested
   by-test R x p is does = does ∙ ap (λ (t : Option Test). toldInC (doTested b r t R)) (sym (ap ofAsked is) ∙ told)
 
@@ -35,9 +35,10 @@ module _ (b : List ℕ) (r : Rec) (a : Asked) (o : Option Test) (told : ofAsked 
   by-point x p is does = does ∙ ap (λ (t : Option Test). countInC (partitionTested b r t)) (sym (ap ofAsked is) ∙ told)
 
   -- it has none
-  pub no-test : (R : Test → Rule) (p : ℕ × (ℕ × Held × (ℕ × ℕ))) → a ≡ Unknown → p ≡ answerInC (noSuchTest (length b) r) → _≡_ {A = (ℕ × (ℕ × Held × (ℕ × ℕ))) × List ℕ} (p, b) (toldInC (doTested b r o R))
+  -- r′ is the record that the answer p was made of
+  pub no-test : (R : Test → Rule) (r′ : Rec) (p : Said) → r′ ≡ r → a ≡ Unknown → p ≡ said (refusedKind (length b) r′) 0 none → _≡_ {A = Said × Held × List ℕ} (p, shut r, b) (toldInC (doTested b r o R))
   unfolding doTested unchanged
-  no-test R p is does = ap (λ x. (x, b)) does ∙ ap (λ (t : Option Test). toldInC (doTested b r t R)) (sym (ap ofAsked is) ∙ told)
+  no-test R r′ p same is does = ap (λ (x : Said). (x, shut r, b)) (does ∙ ap (λ (x : Rec). said (refusedKind (length b) x) 0 none) same) ∙ ap (λ (t : Option Test). toldInC (doTested b r t R)) (sym (ap ofAsked is) ∙ told)
 
   pub no-point : (p : ℕ × ℕ) → a ≡ Unknown → p ≡ countInC (noSuchPoint (length b) r) → p ≡ countInC (partitionTested b r o)
   unfolding partitionTested

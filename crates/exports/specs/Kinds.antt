@@ -6,7 +6,7 @@ use lib.Dec.{eqb}
 use lib.ListN.{length}
 use Rattle.rules.specs.Conditions.{Test, below, atLeast, equal, other}
 use Rattle.rules.specs.Looks.{Look, refuses}
-use Rattle.rules.specs.Outcome.{Answer, Outcome, shut, doRule, unchanged}
+use Rattle.rules.specs.Outcome.{Outcome, shut, doRule, unchanged}
 use Rattle.rules.specs.Records.{Rec}
 use Rattle.rules.specs.Refusals.{onQueue}
 use Rattle.rules.specs.Rule.{Rule}
@@ -32,10 +32,6 @@ ofAsked Unknown = none
 -- where there is no such test: 1 and 2 are asked as ever, then it is 3
 abbrev pub refusedKind : ℕ → Rec → ℕ
 refusedKind cap r = onQueue cap r 3
-
--- such a call changes nothing
-abbrev pub noSuchTest : ℕ → Rec → Answer
-noSuchTest cap r = record { refused = refusedKind cap r; moved = 0; held = shut r; handed = none }
 
 abbrev pub noSuchPoint : ℕ → Rec → Look ℕ
 noSuchPoint cap r = refuses (refusedKind cap r)

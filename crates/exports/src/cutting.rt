@@ -1,33 +1,37 @@
 // The calls that cut elements off.
-use queue::Deque;
 use replies::Reply;
+use replies::changed;
+use replies::deque_in;
 ghost use mathlib.Core.Path.{_≡_};
 ghost use Rattle.rules.specs.Ends.{truncate, truncateFront, clear};
-ghost use Rattle.rules.specs.Outcome.{doRule};
+ghost use Rattle.rules.specs.Outcome.{shut, doRule};
 ghost use Rattle.replies.specs.InC.{toldInC};
+ghost use Rattle.replies.specs.Records.{recIn};
 ghost use Rattle.replies.specs.Replies.{ofReply};
-ghost use Rattle.queue.specs.Answers.{recOf};
 
 // Keeps the first n.
 #[no_mangle]
-pub extern "C" fn scorebucket_truncate(slots: &[u32], q: Deque, n: usize) -> Reply
-    ensures { λ r. ⌜ (ofReply r, now (slots .entry)) ≡ toldInC (doRule (now (slots .entry)) (recOf q) (truncate n)) ⌝ }
+pub extern "C" fn scorebucket_truncate(slots: &[u32], q: &mut [usize; 2], n: usize) -> Reply
+    ensures { λ r. ⌜ (ofReply r, shut (recIn (now (q .exit))), now (slots .entry)) ≡ toldInC (doRule (now (slots .entry)) (recIn (now (q .entry))) (truncate n)) ⌝ }
 {
-    replies::of_change(cuts::truncate(slots, q, n))
+    let before = deque_in(q);
+    changed(q, cuts::truncate(slots, before, n))
 }
 
 // Keeps the last n.
 #[no_mangle]
-pub extern "C" fn scorebucket_truncate_front(slots: &[u32], q: Deque, n: usize) -> Reply
-    ensures { λ r. ⌜ (ofReply r, now (slots .entry)) ≡ toldInC (doRule (now (slots .entry)) (recOf q) (truncateFront n)) ⌝ }
+pub extern "C" fn scorebucket_truncate_front(slots: &[u32], q: &mut [usize; 2], n: usize) -> Reply
+    ensures { λ r. ⌜ (ofReply r, shut (recIn (now (q .exit))), now (slots .entry)) ≡ toldInC (doRule (now (slots .entry)) (recIn (now (q .entry))) (truncateFront n)) ⌝ }
 {
-    replies::of_change(cuts::truncate_front(slots, q, n))
+    let before = deque_in(q);
+    changed(q, cuts::truncate_front(slots, before, n))
 }
 
 // Keeps none.
 #[no_mangle]
-pub extern "C" fn scorebucket_clear(slots: &[u32], q: Deque) -> Reply
-    ensures { λ r. ⌜ (ofReply r, now (slots .entry)) ≡ toldInC (doRule (now (slots .entry)) (recOf q) clear) ⌝ }
+pub extern "C" fn scorebucket_clear(slots: &[u32], q: &mut [usize; 2]) -> Reply
+    ensures { λ r. ⌜ (ofReply r, shut (recIn (now (q .exit))), now (slots .entry)) ≡ toldInC (doRule (now (slots .entry)) (recIn (now (q .entry))) clear) ⌝ }
 {
-    replies::of_change(cuts::clear(slots, q))
+    let before = deque_in(q);
+    changed(q, cuts::clear(slots, before))
 }

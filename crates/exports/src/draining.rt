@@ -1,59 +1,75 @@
 // The calls of a drain, and `splice`.
-use drains::Drain;
-use queue::Deque;
-use replies::DrainReply;
-use replies::DrawReply;
 use replies::Reply;
+use replies::changed;
+use replies::closed;
+use replies::deque_in;
+use replies::drain_in;
+use replies::drawn;
+use replies::opened;
 ghost use mathlib.Core.Path.{_≡_};
-ghost use Rattle.rules.specs.Outcome.{doRule, doOpen, doNext, doNextBack, doClose};
+ghost use Rattle.rules.specs.Outcome.{shut, drawn, doRule, doOpen, doNext, doNextBack, doClose};
 ghost use Rattle.rules.specs.Splice.{splice};
-ghost use Rattle.replies.specs.InC.{toldInC, heldToldInC};
-ghost use Rattle.replies.specs.Replies.{ofReply, ofDrainReply, ofDrawReply};
-ghost use Rattle.queue.specs.Answers.{recOf};
-ghost use Rattle.drains.specs.Answers.{drainOf};
+ghost use Rattle.replies.specs.InC.{toldInC, openingToldInC, closingToldInC};
+ghost use Rattle.replies.specs.Records.{recIn, drainIn};
+ghost use Rattle.replies.specs.Replies.{ofReply};
 
-// Opens a drain of the positions from `start` up to `end`.
+// Opens a drain of the positions from `start` up to `end`. Until it is closed, its record stands for the queue's.
 #[no_mangle]
-pub extern "C" fn scorebucket_drain(slots: &[u32], q: Deque, start: usize, end: usize) -> DrainReply
-    ensures { λ r. ⌜ (ofDrainReply r, now (slots .entry)) ≡ heldToldInC (doOpen (now (slots .entry)) (recOf q) start end) ⌝ }
+pub extern "C" fn scorebucket_drain(
+    slots: &[u32],
+    q: &[usize; 2],
+    start: usize,
+    end: usize,
+    d: &mut [usize; 6],
+) -> Reply
+    ensures { λ r. ⌜ (ofReply r, drainIn (now (d .exit)), now (slots .entry)) ≡ openingToldInC (drainIn (now (d .entry))) (doOpen (now (slots .entry)) (recIn (now (q .entry))) start end) ⌝ }
 {
-    replies::of_opened(drains::drain(slots, q, start, end))
+    let before = deque_in(q);
+    opened(d, drains::drain(slots, before, start, end))
 }
 
 // Hands the first remaining element over.
 #[no_mangle]
-pub extern "C" fn scorebucket_drain_next(slots: &[u32], d: Drain) -> DrawReply
-    ensures { λ r. ⌜ (ofDrawReply r, now (slots .entry)) ≡ toldInC (doNext (now (slots .entry)) (drainOf d)) ⌝ }
+pub extern "C" fn scorebucket_drain_next(slots: &[u32], d: &mut [usize; 6]) -> Reply
+    ensures { λ r. ⌜ (ofReply r, drawn (drainIn (now (d .exit))), now (slots .entry)) ≡ toldInC (doNext (now (slots .entry)) (drainIn (now (d .entry)))) ⌝ }
 {
-    replies::of_drawn(drains::drain_next(slots, d))
+    let before = drain_in(d);
+    drawn(d, drains::drain_next(slots, before))
 }
 
 // Hands the last remaining element over.
 #[no_mangle]
-pub extern "C" fn scorebucket_drain_next_back(slots: &[u32], d: Drain) -> DrawReply
-    ensures { λ r. ⌜ (ofDrawReply r, now (slots .entry)) ≡ toldInC (doNextBack (now (slots .entry)) (drainOf d)) ⌝ }
+pub extern "C" fn scorebucket_drain_next_back(slots: &[u32], d: &mut [usize; 6]) -> Reply
+    ensures { λ r. ⌜ (ofReply r, drawn (drainIn (now (d .exit))), now (slots .entry)) ≡ toldInC (doNextBack (now (slots .entry)) (drainIn (now (d .entry)))) ⌝ }
 {
-    replies::of_drawn(drains::drain_next_back(slots, d))
+    let before = drain_in(d);
+    drawn(d, drains::drain_next_back(slots, before))
 }
 
 // Closes the drain: what was not handed over leaves, and the queue is whole again.
 #[no_mangle]
-pub extern "C" fn scorebucket_drain_close(slots: &mut [u32], d: Drain) -> DrainReply
-    ensures { λ r. ⌜ (ofDrainReply r, now (slots .exit)) ≡ heldToldInC (doClose (now (slots .entry)) (drainOf d)) ⌝ }
+pub extern "C" fn scorebucket_drain_close(
+    slots: &mut [u32],
+    d: &[usize; 6],
+    q: &mut [usize; 2],
+) -> Reply
+    ensures { λ r. ⌜ (ofReply r, recIn (now (q .exit)), now (slots .exit)) ≡ closingToldInC (recIn (now (q .entry))) (doClose (now (slots .entry)) (drainIn (now (d .entry)))) ⌝ }
 {
-    replies::of_closed(drains::drain_close(slots, d))
+    let before = drain_in(d);
+    closed(q, drains::drain_close(slots, before))
 }
 
 // Replaces the elements from position `start` up to `end` by the values.
 #[no_mangle]
 pub extern "C" fn scorebucket_splice(
     slots: &mut [u32],
-    q: Deque,
+    q: &mut [usize; 2],
     start: usize,
     end: usize,
     values: &[u32],
 ) -> Reply
-    ensures { λ r. ⌜ (ofReply r, now (slots .exit)) ≡ toldInC (doRule (now (slots .entry)) (recOf q) (splice start end (now (values .entry)))) ⌝ }
+    ensures { λ r. ⌜ (ofReply r, shut (recIn (now (q .exit))), now (slots .exit)) ≡ toldInC (doRule (now (slots .entry)) (recIn (now (q .entry))) (splice start end (now (values .entry)))) ⌝ }
 {
-    replies::of_change(splices::splice(slots, q, start, end, values))
+    let before = deque_in(q);
+    changed(q, splices::splice(slots, before, start, end, values))
 }

@@ -1,11 +1,13 @@
 // Saved images.
 use queue::Deque;
 use replies::CountReply;
-use replies::MadeReply;
+use replies::Reply;
+use replies::made;
 ghost use mathlib.Core.Path.{_≡_};
 ghost use Rattle.rules.specs.Makes.{readImage};
 ghost use Rattle.replies.specs.InC.{makingToldInC};
-ghost use Rattle.replies.specs.Replies.{ofMadeReply, ofCountReply};
+ghost use Rattle.replies.specs.Records.{recIn};
+ghost use Rattle.replies.specs.Replies.{ofReply, ofCountReply};
 ghost use Rattle.queue.specs.Answers.{recOf};
 ghost use Rattle.exports.specs.Images.{writingToldInC};
 
@@ -19,8 +21,12 @@ pub extern "C" fn scorebucket_write_image(slots: &[u32], q: Deque, target: &mut 
 
 // Reads an image into bare slots, and makes the record of its elements.
 #[no_mangle]
-pub extern "C" fn scorebucket_read_image(slots: &mut [u32], bytes: &[u8]) -> MadeReply
-    ensures { λ r. ⌜ (ofMadeReply r, now (slots .exit)) ≡ makingToldInC (readImage (now (slots .entry)) (now (bytes .entry))) ⌝ }
+pub extern "C" fn scorebucket_read_image(
+    slots: &mut [u32],
+    q: &mut [usize; 2],
+    bytes: &[u8],
+) -> Reply
+    ensures { λ r. ⌜ (ofReply r, recIn (now (q .exit)), now (slots .exit)) ≡ makingToldInC (recIn (now (q .entry))) (readImage (now (slots .entry)) (now (bytes .entry))) ⌝ }
 {
-    replies::of_made(images::read_image(slots, bytes))
+    made(q, images::read_image(slots, bytes))
 }

@@ -2,13 +2,15 @@
 use conditions::Test;
 use queue::Checked;
 use queue::Deque;
+use queue::Refusal;
 use replies::CountReply;
 use replies::Reply;
+ghost use mathlib.Core.Option.{none};
 ghost use mathlib.Core.Path.{_≡_};
-ghost use Rattle.replies.specs.InC.{answerInC, countInC};
+ghost use Rattle.replies.specs.InC.{said, countInC};
 ghost use Rattle.replies.specs.Replies.{ofReply, ofCountReply};
-ghost use Rattle.queue.specs.Answers.{recOf};
-ghost use Rattle.exports.specs.Kinds.{testIn, ofAsked, noSuchTest, noSuchPoint, refusedKind};
+ghost use Rattle.queue.specs.Answers.{recOf, numberOf};
+ghost use Rattle.exports.specs.Kinds.{testIn, ofAsked, noSuchPoint, refusedKind};
 
 // The test that was asked for, if there is one of that kind.
 pub enum Asked {
@@ -29,27 +31,21 @@ pub fn test_of_kind(kind: u32, k: u32) -> Asked
     }
 }
 
-// The refusal number where a kind is unknown: 1 and 2 as ever, then 3.
-fn refused_kind(cap: usize, q: Deque) -> usize
-    ensures { λ r. ⌜ r ≡ refusedKind cap (recOf q) ⌝ }
+// Why a kind that is unknown is refused: 1 and 2 as ever, then 3.
+fn refused_kind(cap: usize, q: Deque) -> Refusal
+    ensures { λ r. ⌜ numberOf r ≡ refusedKind cap (recOf q) ⌝ }
 {
     if let Checked::Refused(refusal) = queue::check(cap, q) {
-        return answers::number_of(refusal);
+        return refusal;
     }
-    3
+    Refusal::Position
 }
 
 // The answer of a call that changes a queue by a test of unknown kind.
 pub fn no_such_test(cap: usize, q: Deque) -> Reply
-    ensures { λ r. ⌜ ofReply r ≡ answerInC (noSuchTest cap (recOf q)) ⌝ }
+    ensures { λ r. ⌜ ofReply r ≡ said (refusedKind cap (recOf q)) 0 none ⌝ }
 {
-    Reply {
-        refused: refused_kind(cap, q),
-        moved: 0,
-        queue: q,
-        handed: 0,
-        number: 0,
-    }
+    replies::refuses(refused_kind(cap, q), 0)
 }
 
 // The answer of `partition_point` by a test of unknown kind.
@@ -57,7 +53,7 @@ pub fn no_such_point(cap: usize, q: Deque) -> CountReply
     ensures { λ r. ⌜ ofCountReply r ≡ countInC (noSuchPoint cap (recOf q)) ⌝ }
 {
     CountReply {
-        refused: refused_kind(cap, q),
+        refused: answers::number_of(refused_kind(cap, q)),
         count: 0,
     }
 }

@@ -1,5 +1,6 @@
-// The calls for C and Rust. Each is one call of the face, whose answer is handed over as a flat struct; a lent slice crosses as a pointer and a length, and a test
-// as a kind and a number. What a caller must keep to is said in include/scorebucket.h.
+// The calls for C and Rust. Each is one call of the face. A call that changes a record changes it where it stands in the caller's memory, and what it says beside is a flat
+// struct of two registers: a record in a larger struct would come back through memory, as two words that are loaded as one, and wait there.
+// A lent slice crosses as a pointer and a length, and a test as a kind and a number. What a caller must keep to is said in include/scorebucket.h.
 mod comparing;
 mod cutting;
 mod draining;
@@ -9,6 +10,7 @@ mod joining;
 mod kinds;
 mod looking;
 mod making;
+mod measuring;
 mod popping;
 mod pushing;
 mod ranging;

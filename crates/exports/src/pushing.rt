@@ -1,25 +1,28 @@
 // The calls that add an element at an end.
-use queue::Deque;
 use replies::Reply;
+use replies::changed;
+use replies::deque_in;
 ghost use mathlib.Core.Path.{_≡_};
 ghost use Rattle.rules.specs.Ends.{pushBack, pushFront};
-ghost use Rattle.rules.specs.Outcome.{doRule};
+ghost use Rattle.rules.specs.Outcome.{shut, doRule};
 ghost use Rattle.replies.specs.InC.{toldInC};
+ghost use Rattle.replies.specs.Records.{recIn};
 ghost use Rattle.replies.specs.Replies.{ofReply};
-ghost use Rattle.queue.specs.Answers.{recOf};
 
 // Appends v.
 #[no_mangle]
-pub extern "C" fn scorebucket_push_back(slots: &mut [u32], q: Deque, v: u32) -> Reply
-    ensures { λ r. ⌜ (ofReply r, now (slots .exit)) ≡ toldInC (doRule (now (slots .entry)) (recOf q) (pushBack v)) ⌝ }
+pub extern "C" fn scorebucket_push_back(slots: &mut [u32], q: &mut [usize; 2], v: u32) -> Reply
+    ensures { λ r. ⌜ (ofReply r, shut (recIn (now (q .exit))), now (slots .exit)) ≡ toldInC (doRule (now (slots .entry)) (recIn (now (q .entry))) (pushBack v)) ⌝ }
 {
-    replies::of_change(ends::push_back(slots, q, v))
+    let before = deque_in(q);
+    changed(q, ends::push_back(slots, before, v))
 }
 
 // Puts v in front.
 #[no_mangle]
-pub extern "C" fn scorebucket_push_front(slots: &mut [u32], q: Deque, v: u32) -> Reply
-    ensures { λ r. ⌜ (ofReply r, now (slots .exit)) ≡ toldInC (doRule (now (slots .entry)) (recOf q) (pushFront v)) ⌝ }
+pub extern "C" fn scorebucket_push_front(slots: &mut [u32], q: &mut [usize; 2], v: u32) -> Reply
+    ensures { λ r. ⌜ (ofReply r, shut (recIn (now (q .exit))), now (slots .exit)) ≡ toldInC (doRule (now (slots .entry)) (recIn (now (q .entry))) (pushFront v)) ⌝ }
 {
-    replies::of_change(ends::push_front(slots, q, v))
+    let before = deque_in(q);
+    changed(q, ends::push_front(slots, before, v))
 }

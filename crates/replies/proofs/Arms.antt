@@ -1,25 +1,32 @@
--- One arm of a match: the struct that it makes is what the reading `f` of the answer `o a` says. Assumes nothing.
-use mathlib.Core.Path.{_≡_, sym, _∙_, ap}
-use Prim.Native.Nat.{ℕ}
+-- One arm of a match: what it makes is what the reading `f` of the answer `o a` says. Assumes nothing.
+use mathlib.Core.Path.{_≡_, refl, sym, _∙_, ap}
+use Prim.Native.Nat.{ℕ, _≤_}
+use native.Mathlib.Omega.{arith}
+use Rattle.queue.specs.Answers.{numberOf}
+use Rattle.queue.specs.declared.Refusal.{Refusal}
+use Rattle.queue.specs.declared.Refusal.the-variants.{Slots, Record, Position, Room, Image}
 
 -- the arm makes it of the answer's own parts
 pub arm : {A B C : Type 0} (f : B → C) (o : A → B) (a a′ : A) → a′ ≡ a → f (o a) ≡ f (o a′)
 arm f o a a′ is = ap (λ x. f (o x)) (sym is)
 
--- the refusal number n and the rest come from calls, which give k and rest′
-pub arm-with : {A B C : Type 0} (f : B → ℕ × C) (o : A → B) (n k : ℕ) (rest rest′ : C) (a a′ : A) → n ≡ k → rest ≡ rest′ → (k, rest′) ≡ f (o a) → a′ ≡ a → (n, rest) ≡ f (o a′)
-arm-with f o n k rest rest′ a a′ number blank makes is = ap (λ i. (i, rest)) number ∙ ap (λ x. (k, x)) blank ∙ makes ∙ arm f o a a′ is
+-- two parts that come from calls, which give s′ and t′
+pub arm-two : {A B S T : Type 0} (f : B → S × T) (o : A → B) (s s′ : S) (t t′ : T) (a a′ : A) → s ≡ s′ → t ≡ t′ → (s′, t′) ≡ f (o a) → a′ ≡ a → (s, t) ≡ f (o a′)
+arm-two f o s s′ t t′ a a′ one two makes is = ap (λ x. (x, t)) one ∙ ap (λ x. (s′, x)) two ∙ makes ∙ arm f o a a′ is
+
+-- three
+pub arm-three : {A B S T U : Type 0} (f : B → S × T × U) (o : A → B) (s s′ : S) (t t′ : T) (u u′ : U) (a a′ : A) → s ≡ s′ → t ≡ t′ → u ≡ u′ → (s′, t′, u′) ≡ f (o a) → a′ ≡ a → (s, t, u) ≡ f (o a′)
+arm-three f o s s′ t t′ u u′ a a′ one two three makes is = ap (λ x. (x, t, u)) one ∙ ap (λ x. (s′, x, u)) two ∙ ap (λ x. (s′, t′, x)) three ∙ makes ∙ arm f o a a′ is
 
 -- the refusal number alone
 pub arm-refused : {A B C : Type 0} (f : B → ℕ × C) (o : A → B) (n k : ℕ) (rest : C) (a a′ : A) → n ≡ k → (k, rest) ≡ f (o a) → a′ ≡ a → (n, rest) ≡ f (o a′)
-arm-refused f o n k rest a a′ number makes is = ap (λ i. (i, rest)) number ∙ makes ∙ arm f o a a′ is
+arm-refused f o n k rest a a′ number makes is = arm-two f o n k rest rest a a′ number refl makes is
 
--- a part of the rest that a call gives, beside parts of the answer's own
-pub first : {A B : Type 0} (a a′ : A) (b : B) → a ≡ a′ → _≡_ {A = A × B} (a, b) (a′, b)
-first a a′ b is = ap (λ x. (x, b)) is
-
-pub second : {A B : Type 0} (a : A) (b b′ : B) → b ≡ b′ → _≡_ {A = A × B} (a, b) (a, b′)
-second a b b′ is = ap (λ x. (a, x)) is
-
-pub third : {A B C : Type 0} (a : A) (b : B) (c c′ : C) → c ≡ c′ → _≡_ {A = A × B × C} (a, b, c) (a, b, c′)
-third a b c c′ is = ap (λ x. (a, b, x)) is
+-- a refusal number fits any width
+pub few : (n : ℕ) (x : Refusal) → n ≡ numberOf x → n ≤ 5
+unfolding numberOf
+few n Slots e = omega arith
+few n Record e = omega arith
+few n Position e = omega arith
+few n Room e = omega arith
+few n Image e = omega arith

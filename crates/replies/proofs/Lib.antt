@@ -1,2 +1,3 @@
--- How an arm of a match is read.
+-- `Stored`: records and their numbers. `Arms`: how an arm of a match is read.
+pub mod Stored
 pub mod Arms

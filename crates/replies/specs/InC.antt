@@ -1,5 +1,6 @@
--- What a call tells its caller, in plain numbers that are all set: so the contracts leave one possible struct. Each begins with the refusal number. Assumes nothing.
-use mathlib.Core.Bool.{Bool, false, true}
+-- What a call tells its caller, in plain numbers that are all set: so the contracts leave one possible struct and one record. Where a call makes no record, the
+-- caller's stays as it was: `old`. Assumes nothing.
+use mathlib.Core.Bool.{Bool, false}
 use mathlib.Core.List.{List}
 use mathlib.Core.Option.{Option, none, some}
 use Prim.Native.Nat.{ℕ}
@@ -8,66 +9,75 @@ use Rattle.rules.specs.Looks.{Look, sees, refuses, Order, less, alike, greater}
 use Rattle.rules.specs.Makes.{Making, MadeIn}
 use Rattle.rules.specs.Outcome.{Answer, Held, shut, drawn, Outcome}
 use Rattle.rules.specs.Pairs.{Pairing, Paired}
-use Rattle.rules.specs.Records.{Rec, newRec}
+use Rattle.rules.specs.Records.{Rec}
 use Rattle.rules.specs.Runs.{TwoRuns, twoRuns, fromTo}
 use Rattle.rules.specs.Search.{Spot, foundAt, placeAt}
 use Rattle.rules.specs.Walks.{Walk, WalkStep}
 
--- ---- where there is none: zeros
+-- ---- calls that change a list or a record
 
 -- an element: 1 and the number, or 0 and 0
 abbrev pub elementInC : Option ℕ → ℕ × ℕ
 elementInC none = (0, 0)
 elementInC (some v) = (1, v)
 
--- a record: itself, or head 0 and len 0
-abbrev pub recInC : Option Rec → Rec
-recInC none = newRec 0
-recInC (some r) = r
+-- what such a call says: refusal number, moved count, and what is handed over
+abbrev pub Said : Type 0
+Said = ℕ × (ℕ × (ℕ × ℕ))
 
--- no drain is open
-abbrev pub noDrain : Drain
-noDrain = record { head = 0; start = 0; drained = 0; idx = 0; tail = 0; remaining = 0 }
+abbrev pub said : ℕ → ℕ → Option ℕ → Said
+said refused moved handed = (refused, (moved, elementInC handed))
 
--- no walk was begun
-abbrev pub noWalk : Walk
-noWalk = record { rec = newRec 0; low = 0; high = 0 }
+abbrev pub saidOf : Answer → Said
+saidOf a = said (a .refused) (a .moved) (a .handed)
 
--- ---- calls that change a list or a record
+-- on a record that is there: what it says, and the record after
+abbrev pub answerInC : Answer → Said × Held
+answerInC a = (saidOf a, a .held)
 
--- refusal number, moved count, record, and what is handed over
-abbrev pub answerInC : Answer → ℕ × (ℕ × Held × (ℕ × ℕ))
-answerInC a = (a .refused, (a .moved, a .held, elementInC (a .handed)))
+-- the record that was made
+abbrev pub recOr : Rec → Option Rec → Rec
+recOr old none = old
+recOr old (some r) = r
 
--- the record of the queue and that of its drain: one of them is none
-abbrev pub bothOf : Held → Rec × Drain
-bothOf (shut r) = (r, noDrain)
-bothOf (drawn d) = (newRec 0, d)
+abbrev pub makingInC : Rec → Making → Said × Rec
+makingInC old m = (said (m .refused) (m .moved) none, recOr old (m .made))
 
--- of the opening and the closing of a drain, which hand nothing over: refusal number, moved count, both records
-abbrev pub heldInC : Answer → ℕ × (ℕ × (Rec × Drain))
-heldInC a = (a .refused, (a .moved, bothOf (a .held)))
+-- our record and the other's
+abbrev pub pairingInC : Rec → Pairing → Said × Rec × Rec
+pairingInC old p = (said (p .refused) (p .moved) none, p .rec, recOr old (p .other))
 
--- refusal number, moved count, and the record that was made
-abbrev pub makingInC : Making → ℕ × (ℕ × Rec)
-makingInC m = (m .refused, (m .moved, recInC (m .made)))
+-- the drain's record once it is open
+abbrev pub drainOr : Drain → Held → Drain
+drainOr old (shut r) = old
+drainOr old (drawn d) = d
 
--- refusal number, moved count, our record and the other's
-abbrev pub pairingInC : Pairing → ℕ × (ℕ × Rec × Rec)
-pairingInC p = (p .refused, (p .moved, p .rec, recInC (p .other)))
+abbrev pub openingInC : Drain → Answer → Said × Drain
+openingInC old a = (saidOf a, drainOr old (a .held))
 
--- what the caller sees: the answer, and the slots
-abbrev pub toldInC : Outcome → (ℕ × (ℕ × Held × (ℕ × ℕ))) × List ℕ
-toldInC o = (answerInC (o .answer), o .slots)
+-- the queue's record once the drain is closed
+abbrev pub queueOr : Rec → Held → Rec
+queueOr old (shut r) = r
+queueOr old (drawn d) = old
 
-abbrev pub heldToldInC : Outcome → (ℕ × (ℕ × (Rec × Drain))) × List ℕ
-heldToldInC o = (heldInC (o .answer), o .slots)
+abbrev pub closingInC : Rec → Answer → Said × Rec
+closingInC old a = (saidOf a, queueOr old (a .held))
 
-abbrev pub makingToldInC : MadeIn → (ℕ × (ℕ × Rec)) × List ℕ
-makingToldInC m = (makingInC (m .making), m .slots)
+-- what the caller sees: the same, and the slots
+abbrev pub toldInC : Outcome → Said × Held × List ℕ
+toldInC o = (saidOf (o .answer), o .answer .held, o .slots)
 
-abbrev pub pairingToldInC : Paired → (ℕ × (ℕ × Rec × Rec)) × List ℕ × List ℕ
-pairingToldInC p = (pairingInC (p .pairing), p .slots, p .slots′)
+abbrev pub makingToldInC : Rec → MadeIn → Said × Rec × List ℕ
+makingToldInC old m = let p = makingInC old (m .making) in (p .0, p .1, m .slots)
+
+abbrev pub pairingToldInC : Rec → Paired → Said × Rec × Rec × List ℕ × List ℕ
+pairingToldInC old m = let p = pairingInC old (m .pairing) in (p .0, p .1, p .2, m .slots, m .slots′)
+
+abbrev pub openingToldInC : Drain → Outcome → Said × Drain × List ℕ
+openingToldInC old o = let p = openingInC old (o .answer) in (p .0, p .1, o .slots)
+
+abbrev pub closingToldInC : Rec → Outcome → Said × Rec × List ℕ
+closingToldInC old o = let p = closingInC old (o .answer) in (p .0, p .1, o .slots)
 
 -- ---- calls that only look
 
@@ -91,13 +101,13 @@ orderNumber greater = 3
 abbrev pub orderInC : Look Order → ℕ × ℕ
 orderInC l = lookInC orderNumber 0 l
 
--- the position, and whether x stands there
-abbrev pub spotNumbers : Spot → ℕ × Bool
-spotNumbers (foundAt p) = (p, true)
-spotNumbers (placeAt p) = (p, false)
+-- the position, and whether x stands there: 1, or 0
+abbrev pub spotNumbers : Spot → ℕ × ℕ
+spotNumbers (foundAt p) = (p, 1)
+spotNumbers (placeAt p) = (p, 0)
 
-abbrev pub spotInC : Look Spot → ℕ × (ℕ × Bool)
-spotInC l = lookInC spotNumbers (0, false) l
+abbrev pub spotInC : Look Spot → ℕ × (ℕ × ℕ)
+spotInC l = lookInC spotNumbers (0, 0) l
 
 abbrev pub countInC : Look ℕ → ℕ × ℕ
 countInC l = lookInC (λ (n : ℕ). n) 0 l
@@ -105,9 +115,12 @@ countInC l = lookInC (λ (n : ℕ). n) 0 l
 abbrev pub runsInC : Look TwoRuns → ℕ × TwoRuns
 runsInC l = lookInC (λ (t : TwoRuns). t) (twoRuns (fromTo 0 0) (fromTo 0 0)) l
 
-abbrev pub begunInC : Look Walk → ℕ × Walk
-begunInC l = lookInC (λ (w : Walk). w) noWalk l
+-- ---- walks
 
--- a step of a walk: refusal number, the walk after it, and what it gives
-abbrev pub stepInC : WalkStep → ℕ × (Walk × (ℕ × ℕ))
-stepInC s = (s .refused, (s .walk, elementInC (s .gives)))
+-- a walk that was begun
+abbrev pub begunInC : Walk → Look Walk → ℕ × Walk
+begunInC old l = lookInC (λ (w : Walk). w) old l
+
+-- a step: refusal number, what it gives, and the walk after it
+abbrev pub stepInC : WalkStep → (ℕ × (ℕ × ℕ)) × Walk
+stepInC s = ((s .refused, elementInC (s .gives)), s .walk)

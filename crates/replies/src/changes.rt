@@ -1,177 +1,174 @@
-// The answers of the calls that change a list or a record.
+// The answers of the calls that change a list or a record. The caller's record is changed where it stands, and what is said beside it fits two registers.
+use super::records::store_deque;
 use joins::Joined;
 use joins::Split;
 use queue::Change;
-use queue::Deque;
 use queue::Handed;
 use queue::Made;
+use queue::Refusal;
+ghost use mathlib.Core.Option.{none, some};
 ghost use mathlib.Core.Path.{_≡_};
-ghost use Rattle.queue.specs.Answers.{ofChange, ofHanded, ofMade};
+ghost use Rattle.queue.specs.Answers.{numberOf, ofChange, ofHanded, ofMade};
 ghost use Rattle.joins.specs.Answers.{ofJoined, ofSplit};
-ghost use Rattle.replies.specs.InC.{answerInC, makingInC, pairingInC};
-ghost use Rattle.replies.specs.Replies.{ofReply, ofMadeReply, ofPairReply};
+ghost use Rattle.rules.specs.Outcome.{shut};
+ghost use Rattle.replies.specs.InC.{said, answerInC, makingInC, pairingInC};
+ghost use Rattle.replies.specs.Records.{recIn};
+ghost use Rattle.replies.specs.Replies.{ofReply};
 
-// What a call on one queue answers: `refused` is the refusal number, or 0; `handed` is 1 where `number` was handed over, else both are 0.
+// What such a call says: `refused` is the refusal number, or 0; `handed` is 1 where `number` was handed over, else both are 0.
 #[repr(C)]
 pub struct Reply {
-    pub refused: usize,
-    pub moved: usize,
-    pub queue: Deque,
-    pub handed: u32,
+    pub refused: u16,
+    pub handed: u16,
     pub number: u32,
-}
-
-// What a call that makes a record answers; refused, the record is 0, 0.
-#[repr(C)]
-pub struct MadeReply {
-    pub refused: usize,
     pub moved: usize,
-    pub queue: Deque,
 }
 
-// What a call on two queues answers: our record and the other's, which is 0, 0 where none is made.
-#[repr(C)]
-pub struct PairReply {
-    pub refused: usize,
-    pub moved: usize,
-    pub queue: Deque,
-    pub other: Deque,
+// Accepted, with nothing to hand over.
+pub fn done(moved: usize) -> Reply
+    ensures { λ r. ⌜ ofReply r ≡ said 0 moved none ⌝ }
+{
+    Reply {
+        refused: 0,
+        handed: 0,
+        number: 0,
+        moved,
+    }
 }
 
-// The answer of a call that hands nothing over.
-pub fn of_change(change: Change) -> Reply
-    ensures { λ r. ⌜ ofReply r ≡ answerInC (ofChange change) ⌝ }
+// Accepted, and the number is handed over.
+pub fn hands(number: u32, moved: usize) -> Reply
+    ensures { λ r. ⌜ ofReply r ≡ said 0 moved (some number) ⌝ }
+{
+    Reply {
+        refused: 0,
+        handed: 1,
+        number,
+        moved,
+    }
+}
+
+// Refused.
+pub fn refuses(refusal: Refusal, moved: usize) -> Reply
+    ensures { λ r. ⌜ ofReply r ≡ said (numberOf refusal) moved none ⌝ }
+{
+    Reply {
+        refused: answers::number_of(refusal) as u16,
+        handed: 0,
+        number: 0,
+        moved,
+    }
+}
+
+// Stores the record after a call that hands nothing over.
+pub fn changed(q: &mut [usize; 2], change: Change) -> Reply
+    ensures { λ r. ⌜ (ofReply r, shut (recIn (now (q .exit)))) ≡ answerInC (ofChange change) ⌝ }
 {
     match change {
-        Change::Done { queue, moved } => Reply {
-            refused: 0,
-            moved,
-            queue,
-            handed: 0,
-            number: 0,
-        },
+        Change::Done { queue, moved } => {
+            store_deque(q, queue);
+            done(moved)
+        }
         Change::Refused {
             refusal,
             queue,
             moved,
-        } => Reply {
-            refused: answers::number_of(refusal),
-            moved,
-            queue,
-            handed: 0,
-            number: 0,
-        },
+        } => {
+            store_deque(q, queue);
+            refuses(refusal, moved)
+        }
     }
 }
 
-// The answer of a call that hands an element over.
-pub fn of_handed(handed: Handed) -> Reply
-    ensures { λ r. ⌜ ofReply r ≡ answerInC (ofHanded handed) ⌝ }
+// Stores the record after a call that hands an element over.
+pub fn handed(q: &mut [usize; 2], handed: Handed) -> Reply
+    ensures { λ r. ⌜ (ofReply r, shut (recIn (now (q .exit)))) ≡ answerInC (ofHanded handed) ⌝ }
 {
     match handed {
         Handed::Number {
             number,
             queue,
             moved,
-        } => Reply {
-            refused: 0,
-            moved,
-            queue,
-            handed: 1,
-            number,
-        },
-        Handed::Nothing { queue, moved } => Reply {
-            refused: 0,
-            moved,
-            queue,
-            handed: 0,
-            number: 0,
-        },
+        } => {
+            store_deque(q, queue);
+            hands(number, moved)
+        }
+        Handed::Nothing { queue, moved } => {
+            store_deque(q, queue);
+            done(moved)
+        }
         Handed::Refused {
             refusal,
             queue,
             moved,
-        } => Reply {
-            refused: answers::number_of(refusal),
-            moved,
-            queue,
-            handed: 0,
-            number: 0,
-        },
+        } => {
+            store_deque(q, queue);
+            refuses(refusal, moved)
+        }
     }
 }
 
-// The answer of a call that makes a record.
-pub fn of_made(made: Made) -> MadeReply
-    ensures { λ r. ⌜ ofMadeReply r ≡ makingInC (ofMade made) ⌝ }
+// Stores the record that a call made, if it made one.
+pub fn made(q: &mut [usize; 2], made: Made) -> Reply
+    ensures { λ r. ⌜ (ofReply r, recIn (now (q .exit))) ≡ makingInC (recIn (now (q .entry))) (ofMade made) ⌝ }
 {
     match made {
-        Made::Done { queue, moved } => MadeReply {
-            refused: 0,
-            moved,
-            queue,
-        },
-        Made::Refused { refusal, moved } => MadeReply {
-            refused: answers::number_of(refusal),
-            moved,
-            queue: queue::new_record(0),
-        },
+        Made::Done { queue, moved } => {
+            store_deque(q, queue);
+            done(moved)
+        }
+        Made::Refused { refusal, moved } => refuses(refusal, moved),
     }
 }
 
-// The answer of `append`.
-pub fn of_joined(joined: Joined) -> PairReply
-    ensures { λ r. ⌜ ofPairReply r ≡ pairingInC (ofJoined joined) ⌝ }
+// Stores both records after `append`.
+pub fn joined(q: &mut [usize; 2], other: &mut [usize; 2], joined: Joined) -> Reply
+    ensures { λ r. ⌜ (ofReply r, recIn (now (q .exit)), recIn (now (other .exit))) ≡ pairingInC (recIn (now (other .entry))) (ofJoined joined) ⌝ }
 {
     match joined {
         Joined::Done {
             queue,
-            other,
+            other: emptied,
             moved,
-        } => PairReply {
-            refused: 0,
-            moved,
-            queue,
-            other,
-        },
+        } => {
+            store_deque(q, queue);
+            store_deque(other, emptied);
+            done(moved)
+        }
         Joined::Refused {
             refusal,
             queue,
-            other,
+            other: same,
             moved,
-        } => PairReply {
-            refused: answers::number_of(refusal),
-            moved,
-            queue,
-            other,
-        },
+        } => {
+            store_deque(q, queue);
+            store_deque(other, same);
+            refuses(refusal, moved)
+        }
     }
 }
 
-// The answer of `split_off`.
-pub fn of_split(split: Split) -> PairReply
-    ensures { λ r. ⌜ ofPairReply r ≡ pairingInC (ofSplit split) ⌝ }
+// Stores the record after `split_off`, and the target's, if it made one.
+pub fn split(q: &mut [usize; 2], t: &mut [usize; 2], split: Split) -> Reply
+    ensures { λ r. ⌜ (ofReply r, recIn (now (q .exit)), recIn (now (t .exit))) ≡ pairingInC (recIn (now (t .entry))) (ofSplit split) ⌝ }
 {
     match split {
         Split::Done {
             queue,
             target,
             moved,
-        } => PairReply {
-            refused: 0,
-            moved,
-            queue,
-            other: target,
-        },
+        } => {
+            store_deque(q, queue);
+            store_deque(t, target);
+            done(moved)
+        }
         Split::Refused {
             refusal,
             queue,
             moved,
-        } => PairReply {
-            refused: answers::number_of(refusal),
-            moved,
-            queue,
-            other: queue::new_record(0),
-        },
+        } => {
+            store_deque(q, queue);
+            refuses(refusal, moved)
+        }
     }
 }

@@ -1,16 +1,16 @@
-// The answers of the calls as a caller from C or Rust gets them: flat structs of plain numbers, in which every field is set.
+// The answers of the calls as a caller from C or Rust gets them: his record, changed where it stands, and a flat struct of plain numbers, in which every field is set.
 mod changes; // changes.rt: calls that change a list or a record
 mod looks; // looks.rt: calls that only look
 mod opens; // opens.rt: drains and walks
+mod records; // records.rt: the records as numbers in the caller's memory
 
-pub use changes::MadeReply;
-pub use changes::PairReply;
 pub use changes::Reply;
-pub use changes::of_change;
-pub use changes::of_handed;
-pub use changes::of_joined;
-pub use changes::of_made;
-pub use changes::of_split;
+pub use changes::changed;
+pub use changes::handed;
+pub use changes::joined;
+pub use changes::made;
+pub use changes::refuses;
+pub use changes::split;
 pub use looks::CountReply;
 pub use looks::OrderReply;
 pub use looks::RangesReply;
@@ -24,12 +24,11 @@ pub use looks::of_ranges;
 pub use looks::of_searched;
 pub use looks::of_truth;
 pub use looks::of_written;
-pub use opens::DrainReply;
-pub use opens::DrawReply;
-pub use opens::StepReply;
-pub use opens::WalkReply;
-pub use opens::of_begun;
-pub use opens::of_closed;
-pub use opens::of_drawn;
-pub use opens::of_opened;
-pub use opens::of_stepped;
+pub use opens::begun;
+pub use opens::closed;
+pub use opens::drawn;
+pub use opens::opened;
+pub use opens::stepped;
+pub use records::deque_in;
+pub use records::drain_in;
+pub use records::walk_in;

@@ -38,12 +38,12 @@ pub struct OrderReply {
     pub order: usize,
 }
 
-// What a search answers: the position where x stands, or, not found, where to insert it.
+// What a search answers: `found` is 1 and `position` is where x stands, or 0 and where to insert it.
 #[repr(C)]
 pub struct SearchReply {
-    pub refused: usize,
+    pub refused: u32,
+    pub found: u32,
     pub position: usize,
-    pub found: bool,
 }
 
 // A number of elements or of bytes.
@@ -128,18 +128,18 @@ pub fn of_searched(searched: Searched) -> SearchReply
     match searched {
         Searched::Found(position) => SearchReply {
             refused: 0,
+            found: 1,
             position,
-            found: true,
         },
         Searched::Place(position) => SearchReply {
             refused: 0,
+            found: 0,
             position,
-            found: false,
         },
         Searched::Refused(refusal) => SearchReply {
-            refused: answers::number_of(refusal),
+            refused: answers::number_of(refusal) as u32,
+            found: 0,
             position: 0,
-            found: false,
         },
     }
 }

@@ -1,19 +1,21 @@
 -- `exports::cutting::scorebucket_truncate_front` meets its contract. Assumes nothing.
-use Rattle.exports.proofs.Crossing.{crosses-with}
-use Rattle.replies.specs.InC.{answerInC}
+use Rattle.exports.proofs.Crossing.{by-rule}
 use borrow.Author.Needs.{needs}
 use Rattle.exports.proofs.cutting.scorebucket_truncate_front.Statement.{statement}
 use Rattle.exports.proofs.cutting.scorebucket_truncate_front.Tie as tie
 
+deque-in-requires : tie.Need-deque-in-requires
+deque-in-requires c κs = search needs
+
 truncate-front-requires : tie.Need-truncate-front-requires
 truncate-front-requires c κs = search needs
 
-of-change-requires : tie.Need-of-change-requires
-of-change-requires c κs = search needs
+changed-requires : tie.Need-changed-requires
+changed-requires c κs = search needs
 
 returns : tie.Need-returns
-returns c = crosses-with answerInC _ _ _ _ _ (c .of-change .ensures) (c .before .truncate-front .ensures)
+returns c = by-rule _ _ _ (c .before .before .before .deque-in .ensures) _ _ _ _ _ (c .changed .ensures) (c .before .truncate-front .ensures)
 
 pub scorebucket-truncate-front-spec : {M : Type 1} → statement M
 scorebucket-truncate-front-spec =
-    tie.close (tie.spec truncate-front-requires of-change-requires returns)
+    tie.close (tie.spec deque-in-requires truncate-front-requires changed-requires returns)

@@ -1,22 +1,27 @@
 -- `exports::draining::scorebucket_drain_close` meets its contract. Assumes nothing.
-use Rattle.exports.proofs.Crossing.{crosses-with}
-use Rattle.replies.specs.InC.{heldInC}
+use mathlib.Core.Path.{ap}
+use Rattle.exports.proofs.Crossing.{on-record}
+use Rattle.replies.specs.InC.{closingInC}
+use Rattle.rules.specs.Outcome.{doClose}
 use borrow.Author.Needs.{needs}
 use Rattle.exports.proofs.draining.scorebucket_drain_close.Statement.{statement}
 use Rattle.exports.proofs.draining.scorebucket_drain_close.Tie as tie
 
+drain-in-requires : tie.Need-drain-in-requires
+drain-in-requires c κs = search needs
+
 drain-close-requires : tie.Need-drain-close-requires
 drain-close-requires c κs = search needs
 
-of-closed-requires : tie.Need-of-closed-requires
-of-closed-requires c κs = search needs
+closed-requires : tie.Need-closed-requires
+closed-requires c κs = search needs
 
 same-length : tie.Need-same-length
 same-length c = search needs
 
 returns : tie.Need-returns
-returns c = crosses-with heldInC _ _ _ _ _ (c .of-closed .ensures) (c .before .before .before .drain-close .ensures)
+returns c = on-record (closingInC _) _ _ _ _ _ _ (ap (doClose _) (c .before .before .before .before .before .before .drain-in .ensures)) (c .closed .ensures) (c .before .before .before .drain-close .ensures)
 
 pub scorebucket-drain-close-spec : {M : Type 1} → statement M
 scorebucket-drain-close-spec =
-    tie.close (tie.spec drain-close-requires of-closed-requires same-length returns)
+    tie.close (tie.spec drain-in-requires drain-close-requires closed-requires same-length returns)

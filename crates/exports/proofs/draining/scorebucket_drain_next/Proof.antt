@@ -1,18 +1,24 @@
 -- `exports::draining::scorebucket_drain_next` meets its contract. Assumes nothing.
-use Rattle.exports.proofs.Crossing.{crosses-with}
+use mathlib.Core.Path.{ap}
+use Rattle.exports.proofs.Crossing.{on-record}
 use Rattle.replies.specs.InC.{answerInC}
+use Rattle.rules.specs.Outcome.{doNext}
 use borrow.Author.Needs.{needs}
 use Rattle.exports.proofs.draining.scorebucket_drain_next.Statement.{statement}
 use Rattle.exports.proofs.draining.scorebucket_drain_next.Tie as tie
 
+drain-in-requires : tie.Need-drain-in-requires
+drain-in-requires c κs = search needs
+
 drain-next-requires : tie.Need-drain-next-requires
 drain-next-requires c κs = search needs
 
-of-drawn-requires : tie.Need-of-drawn-requires
-of-drawn-requires c κs = search needs
+drawn-requires : tie.Need-drawn-requires
+drawn-requires c κs = search needs
 
 returns : tie.Need-returns
-returns c = crosses-with answerInC _ _ _ _ _ (c .of-drawn .ensures) (c .before .drain-next .ensures)
+returns c = on-record answerInC _ _ _ _ _ _ (ap (doNext _) (c .before .before .before .drain-in .ensures)) (c .drawn .ensures) (c .before .drain-next .ensures)
 
 pub scorebucket-drain-next-spec : {M : Type 1} → statement M
-scorebucket-drain-next-spec = tie.close (tie.spec drain-next-requires of-drawn-requires returns)
+scorebucket-drain-next-spec =
+    tie.close (tie.spec drain-in-requires drain-next-requires drawn-requires returns)

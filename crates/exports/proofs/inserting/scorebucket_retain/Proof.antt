@@ -1,11 +1,13 @@
 -- `exports::inserting::scorebucket_retain` meets its contract. Assumes nothing.
 use Rattle.exports.proofs.ByTest.{by-test, no-test}
-use Rattle.exports.proofs.Crossing.{crosses-with}
-use Rattle.replies.specs.InC.{answerInC}
+use Rattle.exports.proofs.Crossing.{by-rule}
 use Rattle.rules.specs.Middle.{retain}
 use borrow.Author.Needs.{needs}
 use Rattle.exports.proofs.inserting.scorebucket_retain.Statement.{statement}
 use Rattle.exports.proofs.inserting.scorebucket_retain.Tie as tie
+
+deque-in-requires : tie.Need-deque-in-requires
+deque-in-requires c κs = search needs
 
 test-of-kind-requires : tie.Need-test-of-kind-requires
 test-of-kind-requires c κs = search needs
@@ -16,14 +18,14 @@ enum-known-test c = search needs
 retain-requires : tie.Need-retain-requires
 retain-requires c κs = search needs
 
-of-change-requires : tie.Need-of-change-requires
-of-change-requires c κs = search needs
+changed-requires : tie.Need-changed-requires
+changed-requires c κs = search needs
 
 same-length : tie.Need-same-length
 same-length c = search needs
 
 returns : tie.Need-returns
-returns c = by-test _ _ _ _ (c .before .before .before .before .before .before .before .before .test-of-kind .ensures) retain _ _ (c .before .before .before .before .before .before .test .given .1) (crosses-with answerInC _ _ _ _ _ (c .of-change .ensures) (c .before .before .before .retain .ensures))
+returns c = by-test _ _ _ _ (c .before .before .before .before .before .before .before .before .before .test-of-kind .ensures) retain _ _ (c .before .before .before .before .before .before .before .test .given .1) (by-rule _ _ _ (c .before .before .before .before .before .before .before .before .before .before .deque-in .ensures) _ _ _ _ _ (c .changed .ensures) (c .before .before .before .retain .ensures))
 
 enum-told : tie.Need-enum-told
 enum-told c = search needs
@@ -32,16 +34,17 @@ no-such-test-requires : tie.Need-no-such-test-requires
 no-such-test-requires c κs = search needs
 
 returns-2 : tie.Need-returns-2
-returns-2 c = no-test _ _ _ _ (c .before .before .before .test-of-kind .ensures) retain _ (c .before .enum-told .given .1) (c .no-such-test .ensures)
+returns-2 c = no-test _ _ _ _ (c .before .before .before .test-of-kind .ensures) retain _ _ (c .before .before .before .before .deque-in .ensures) (c .before .enum-told .given .1) (c .no-such-test .ensures)
 
 pub scorebucket-retain-spec : {M : Type 1} → statement M
 scorebucket-retain-spec =
     tie.close
     (tie.spec
+    deque-in-requires
     test-of-kind-requires
     enum-known-test
     retain-requires
-    of-change-requires
+    changed-requires
     same-length
     returns
     enum-told

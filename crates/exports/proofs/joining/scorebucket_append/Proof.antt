@@ -1,22 +1,34 @@
 -- `exports::joining::scorebucket_append` meets its contract. Assumes nothing.
-use Rattle.exports.proofs.Crossing.{crosses-with-two}
-use Rattle.replies.specs.InC.{pairingInC}
+use Rattle.exports.proofs.Crossing.{appends}
 use borrow.Author.Needs.{needs}
 use Rattle.exports.proofs.joining.scorebucket_append.Statement.{statement}
 use Rattle.exports.proofs.joining.scorebucket_append.Tie as tie
 
+deque-in-requires : tie.Need-deque-in-requires
+deque-in-requires c κs = search needs
+
+deque-in-requires-2 : tie.Need-deque-in-requires-2
+deque-in-requires-2 c κs = search needs
+
 append-requires : tie.Need-append-requires
 append-requires c κs = search needs
 
-of-joined-requires : tie.Need-of-joined-requires
-of-joined-requires c κs = search needs
+joined-requires : tie.Need-joined-requires
+joined-requires c κs = search needs
 
 same-length : tie.Need-same-length
 same-length c = search needs
 
 returns : tie.Need-returns
-returns c = crosses-with-two pairingInC _ _ _ _ _ _ _ (c .of-joined .ensures) (c .before .before .before .append .ensures)
+returns c = appends _ _ _ (c .before .before .before .before .before .before .before .before .before .deque-in .ensures) _ _ _ _ (c .before .before .before .before .before .before .before .deque-in2 .ensures) _ _ _ _ _ _ (c .joined .ensures) (c .before .before .before .append .ensures)
 
 pub scorebucket-append-spec : {M : Type 1} → statement M
 scorebucket-append-spec =
-    tie.close (tie.spec append-requires of-joined-requires same-length returns)
+    tie.close
+    (tie.spec
+    deque-in-requires
+    deque-in-requires-2
+    append-requires
+    joined-requires
+    same-length
+    returns)

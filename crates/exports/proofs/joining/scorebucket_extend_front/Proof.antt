@@ -1,22 +1,25 @@
 -- `exports::joining::scorebucket_extend_front` meets its contract. Assumes nothing.
-use Rattle.exports.proofs.Crossing.{crosses-with}
-use Rattle.replies.specs.InC.{answerInC}
+use Rattle.exports.proofs.Crossing.{by-rule}
 use borrow.Author.Needs.{needs}
 use Rattle.exports.proofs.joining.scorebucket_extend_front.Statement.{statement}
 use Rattle.exports.proofs.joining.scorebucket_extend_front.Tie as tie
 
+deque-in-requires : tie.Need-deque-in-requires
+deque-in-requires c κs = search needs
+
 extend-front-requires : tie.Need-extend-front-requires
 extend-front-requires c κs = search needs
 
-of-change-requires : tie.Need-of-change-requires
-of-change-requires c κs = search needs
+changed-requires : tie.Need-changed-requires
+changed-requires c κs = search needs
 
 same-length : tie.Need-same-length
 same-length c = search needs
 
 returns : tie.Need-returns
-returns c = crosses-with answerInC _ _ _ _ _ (c .of-change .ensures) (c .before .before .before .extend-front .ensures)
+returns c = by-rule _ _ _ (c .before .before .before .before .before .before .deque-in .ensures) _ _ _ _ _ (c .changed .ensures) (c .before .before .before .extend-front .ensures)
 
 pub scorebucket-extend-front-spec : {M : Type 1} → statement M
 scorebucket-extend-front-spec =
-    tie.close (tie.spec extend-front-requires of-change-requires same-length returns)
+    tie.close
+    (tie.spec deque-in-requires extend-front-requires changed-requires same-length returns)

@@ -1,5 +1,5 @@
 -- `exports::making::scorebucket_fresh` meets its contract. Assumes nothing.
-use Rattle.exports.proofs.Crossing.{crosses-with}
+use Rattle.exports.proofs.Crossing.{changes}
 use Rattle.replies.specs.InC.{makingInC}
 use borrow.Author.Needs.{needs}
 use Rattle.exports.proofs.making.scorebucket_fresh.Statement.{statement}
@@ -8,11 +8,11 @@ use Rattle.exports.proofs.making.scorebucket_fresh.Tie as tie
 fresh-requires : tie.Need-fresh-requires
 fresh-requires c κs = search needs
 
-of-made-requires : tie.Need-of-made-requires
-of-made-requires c κs = search needs
+made-requires : tie.Need-made-requires
+made-requires c κs = search needs
 
 returns : tie.Need-returns
-returns c = crosses-with makingInC _ _ _ _ _ (c .of-made .ensures) (c .before .fresh .ensures)
+returns c = changes (makingInC _) _ _ _ _ _ _ (c .made .ensures) (c .before .fresh .ensures)
 
 pub scorebucket-fresh-spec : {M : Type 1} → statement M
-scorebucket-fresh-spec = tie.close (tie.spec fresh-requires of-made-requires returns)
+scorebucket-fresh-spec = tie.close (tie.spec fresh-requires made-requires returns)

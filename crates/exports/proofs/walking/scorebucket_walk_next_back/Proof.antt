@@ -1,19 +1,24 @@
 -- `exports::walking::scorebucket_walk_next_back` meets its contract. Assumes nothing.
+use mathlib.Core.Path.{_∙_, ap}
 use Rattle.exports.proofs.Crossing.{crosses}
 use Rattle.replies.specs.InC.{stepInC}
+use Rattle.rules.specs.Walks.{nextBackStep}
 use borrow.Author.Needs.{needs}
 use Rattle.exports.proofs.walking.scorebucket_walk_next_back.Statement.{statement}
 use Rattle.exports.proofs.walking.scorebucket_walk_next_back.Tie as tie
 
+walk-in-requires : tie.Need-walk-in-requires
+walk-in-requires c κs = search needs
+
 walk-next-back-requires : tie.Need-walk-next-back-requires
 walk-next-back-requires c κs = search needs
 
-of-stepped-requires : tie.Need-of-stepped-requires
-of-stepped-requires c κs = search needs
+stepped-requires : tie.Need-stepped-requires
+stepped-requires c κs = search needs
 
 returns : tie.Need-returns
-returns c = crosses stepInC _ _ _ (c .of-stepped .ensures) (c .before .walk-next-back .ensures)
+returns c = crosses stepInC _ _ _ (c .stepped .ensures) (c .before .walk-next-back .ensures ∙ ap (nextBackStep _) (c .before .before .before .walk-in .ensures))
 
 pub scorebucket-walk-next-back-spec : {M : Type 1} → statement M
 scorebucket-walk-next-back-spec =
-    tie.close (tie.spec walk-next-back-requires of-stepped-requires returns)
+    tie.close (tie.spec walk-in-requires walk-next-back-requires stepped-requires returns)

@@ -1,0 +1,20 @@
+-- The straight copy alone. Assumes nothing.
+use mathlib.Core.Bool.{Bool, _&&_}
+use mathlib.Core.List.{List}
+use Prim.Native.Nat.{ℕ, _+_}
+use lib.Dec.{leb, ltb}
+use lib.ListN.{length}
+use Rattle.rules.specs.Slots.{copied}
+use Rattle.rules.specs.Tests.{ask, unless}
+
+-- the n slots from s on are slots; s is one, even if n is 0
+unfoldable pub inSlots : ℕ → ℕ → ℕ → Bool
+inSlots cap s n = ltb s cap && leb (s + n) cap
+
+-- 3 where a stretch is out of the slots
+unfoldable pub onCopy : ℕ → ℕ → ℕ → ℕ → ℕ
+onCopy cap s d n = ask (inSlots cap s n) 3 (ask (inSlots cap d n) 3 0)
+
+-- the refusal number, and the slots: copied, or as they were
+unfoldable pub copyTold : List ℕ → ℕ → ℕ → ℕ → ℕ × List ℕ
+copyTold b s d n = let k = onCopy (length b) s d n in (k, unless k (copied b s d n) b)

@@ -1,0 +1,46 @@
+-- `replies::changes::changed` meets its contract. Assumes nothing.
+use mathlib.Core.Path.{refl, ap}
+use Rattle.rules.specs.Outcome.{shut}
+use Rattle.replies.proofs.Arms.{arm-two}
+use Rattle.replies.specs.InC.{answerInC}
+use Rattle.queue.specs.Answers.{ofChange}
+use borrow.Author.Needs.{needs}
+use Rattle.replies.proofs.changes.changed.Statement.{statement}
+use Rattle.replies.proofs.changes.changed.Tie as tie
+
+enum-known-change : tie.Need-enum-known-change
+enum-known-change c = search needs
+
+store-deque-requires : tie.Need-store-deque-requires
+store-deque-requires c κs = search needs
+
+done-requires : tie.Need-done-requires
+done-requires c κs = search needs
+
+enum-known-change-2 : tie.Need-enum-known-change-2
+enum-known-change-2 c = search needs
+
+store-deque-requires-2 : tie.Need-store-deque-requires-2
+store-deque-requires-2 c κs = search needs
+
+refuses-requires : tie.Need-refuses-requires
+refuses-requires c κs = search needs
+
+returns : tie.Need-returns
+returns c = arm-two answerInC ofChange _ _ _ _ _ _ (c .done .ensures) (ap shut (c .before .store-deque .ensures)) refl (c .before .before .before .before .change .given .1)
+
+returns-2 : tie.Need-returns-2
+returns-2 c = arm-two answerInC ofChange _ _ _ _ _ _ (c .refuses .ensures) (ap shut (c .before .store-deque2 .ensures)) refl (c .before .before .before .before .change2 .given .1)
+
+pub changed-spec : {M : Type 1} → statement M
+changed-spec =
+    tie.close
+    (tie.spec
+    enum-known-change
+    store-deque-requires
+    done-requires
+    enum-known-change-2
+    store-deque-requires-2
+    refuses-requires
+    returns
+    returns-2)
