@@ -14,18 +14,18 @@ pub use queue::fresh;
 pub use conditions::Test;
 
 // The ends.
-pub use looks::back;
 pub use cuts::clear;
-pub use looks::front;
-pub use looks::get;
+pub use cuts::truncate;
+pub use cuts::truncate_front;
 pub use ends::pop_back;
 pub use ends::pop_back_if;
 pub use ends::pop_front;
 pub use ends::pop_front_if;
 pub use ends::push_back;
 pub use ends::push_front;
-pub use cuts::truncate;
-pub use cuts::truncate_front;
+pub use looks::back;
+pub use looks::front;
+pub use looks::get;
 
 // An element in another's place.
 pub use swaps::swap;
@@ -38,13 +38,13 @@ pub use middle::remove;
 pub use retains::retain;
 
 // Lent slices and other queues.
-pub use joins::Joined;
-pub use joins::Split;
-pub use joins::append;
 pub use extends::extend;
 pub use extends::extend_front;
 pub use extends::prepend;
 pub use extends::resize;
+pub use joins::Joined;
+pub use joins::Split;
+pub use joins::append;
 pub use joins::split_off;
 
 // Drains and splices.

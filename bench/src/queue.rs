@@ -1,0 +1,26 @@
+//! What is timed, as each side offers it.
+
+/// A queue over a fixed number of slots. A call that can't be met is not made here.
+pub trait Queue {
+    /// An empty queue over `cap` slots whose first element will stand in slot `head`.
+    fn starting_at(cap: usize, head: usize) -> Self;
+    fn push_back(&mut self, v: u32);
+    fn push_front(&mut self, v: u32);
+    fn pop_front(&mut self) -> Option<u32>;
+    fn pop_back(&mut self) -> Option<u32>;
+    fn get(&self, i: usize) -> Option<u32>;
+    fn insert(&mut self, i: usize, v: u32);
+    fn remove(&mut self, i: usize) -> Option<u32>;
+    fn truncate(&mut self, n: usize);
+    fn extend(&mut self, values: &[u32]);
+    fn prepend(&mut self, values: &[u32]);
+    fn truncate_front(&mut self, n: usize);
+    fn append(&mut self, other: &mut Self);
+    fn drain(&mut self, start: usize, end: usize);
+    fn splice(&mut self, start: usize, end: usize, values: &[u32]);
+    fn retain_below(&mut self, k: u32);
+    fn contains(&self, x: u32) -> bool;
+    fn equals(&self, other: &Self) -> bool;
+    fn is_less(&self, other: &Self) -> bool;
+    fn find(&self, x: u32) -> bool;
+}

@@ -1,0 +1,38 @@
+//! How long a piece of work takes.
+use std::time::{Duration, Instant};
+
+/// A round takes at least so long.
+const ROUND: Duration = Duration::from_millis(2);
+/// So many rounds are made of each side, in turns; the fastest counts.
+const ROUNDS: u32 = 15;
+
+/// How many turns of the work make a round.
+pub fn turns_of_a_round(mut work: impl FnMut(u32)) -> u32 {
+    let mut turns = 1;
+    loop {
+        let start = Instant::now();
+        work(turns);
+        if start.elapsed() > ROUND {
+            return turns;
+        }
+        turns *= 2;
+    }
+}
+
+fn nanoseconds(turns: u32, work: &mut dyn FnMut(u32)) -> f64 {
+    let start = Instant::now();
+    work(turns);
+    start.elapsed().as_nanos() as f64 / turns as f64
+}
+
+/// The nanoseconds that one turn of each work takes. The rounds of the works alternate, so that whatever slows the machine meets them all.
+pub fn times(works: &mut [&mut dyn FnMut(u32)]) -> Vec<f64> {
+    let turns: Vec<u32> = works.iter_mut().map(|w| turns_of_a_round(|n| w(n))).collect();
+    let mut best = vec![f64::MAX; works.len()];
+    for _ in 0..ROUNDS {
+        for (i, work) in works.iter_mut().enumerate() {
+            best[i] = best[i].min(nanoseconds(turns[i], *work));
+        }
+    }
+    best
+}
