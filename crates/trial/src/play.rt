@@ -2,17 +2,22 @@
 use crate::lines::put_broken;
 use crate::lines::put_first;
 use crate::lines::put_list;
+use crate::lines::put_queues;
 use crate::lines::put_said;
-use crate::lines::put_sides;
-use trial_calls::PairStep;
-use trial_calls::Side;
-use trial_calls::Step;
-use trial_calls::call_both;
-use trial_calls::call_one;
+use trial_calls::Kept;
+use trial_calls::Walked;
+use trial_calls::change;
+use trial_calls::compare;
 use trial_calls::fill;
+use trial_calls::look;
+use trial_calls::plant;
 use trial_calls::quiet;
 use trial_calls::record;
 use trial_calls::rest;
+use trial_calls::said::say_done;
+use trial_calls::say_turned;
+use trial_calls::set;
+use trial_calls::walk;
 use trial_calls::well_formed;
 use trial_calls::word;
 use trial_text::First;
@@ -20,19 +25,27 @@ use trial_text::Piece;
 use trial_text::Read;
 use trial_text::first_line;
 use trial_text::next_words;
+use turns::Side;
+use turns::Turned;
 
-// After a call: the queue called on, the other, and the bytes that the output's buffer holds.
+// After a call: the two queues, and the bytes that the output's buffer holds.
 struct Called {
-    side: Side,
-    other: Side,
+    a: Kept,
+    b: Kept,
+    at: usize,
+}
+
+// After a call on one queue that changes no slot of either.
+struct Asked {
+    kept: Kept,
     at: usize,
 }
 
 // After a line: the piece of the input behind it, the two queues, and the bytes that the output's buffer holds.
 struct Now {
     piece: Piece,
-    a: Side,
-    b: Side,
+    a: Kept,
+    b: Kept,
     at: usize,
 }
 
@@ -43,28 +56,138 @@ enum Turn {
     End,
 }
 
-// Puts what a call on one queue gave.
-fn put_step(out: &mut [u8], at: usize, step: Step, other: Side) -> Called {
-    let side = step.side;
-    let said = step.said;
-    let now = put_said(out, at, said);
+// Puts what a call gave that can change a queue.
+fn put_turned(
+    number: usize,
+    a: Kept,
+    b: Kept,
+    turned: Turned,
+    out: &mut [u8],
+    at: usize,
+) -> Called {
+    let first = turned.a;
+    let second = turned.b;
     Called {
-        side,
-        other,
-        at: now,
+        a: a.with_holding(first),
+        b: b.with_holding(second),
+        at: put_said(out, at, say_turned(number, turned)),
     }
 }
 
-// Puts what a call on both queues gave.
-fn put_pair_step(out: &mut [u8], at: usize, step: PairStep) -> Called {
-    let side = step.side;
-    let other = step.other;
-    let said = step.said;
-    let now = put_said(out, at, said);
+// Makes a call that can change a queue, and puts what it gave.
+fn call_turn(
+    number: usize,
+    words: &[usize],
+    a_slots: &mut [u32],
+    a: Kept,
+    b_slots: &mut [u32],
+    b: Kept,
+    side: Side,
+    out: &mut [u8],
+    at: usize,
+) -> Called {
+    let first = a.holding;
+    let second = b.holding;
+    let turned = change(number, words, a_slots, first, b_slots, second, side);
+    put_turned(number, a, b, turned, out, at)
+}
+
+// 93: A gets the slots 10, 11, .. and the record, B the slots 20, 21 and a record whose two elements wrap.
+fn call_plant(
+    words: &[usize],
+    a_slots: &mut [u32],
+    b_slots: &mut [u32],
+    out: &mut [u8],
+    at: usize,
+) -> Called {
+    let a = plant(a_slots, 10, word(words, 0), word(words, 1));
+    let b = plant(b_slots, 20, 1, 2);
     Called {
-        side,
-        other,
-        at: now,
+        a,
+        b,
+        at: put_said(out, at, say_done(0)),
+    }
+}
+
+// Puts what a call on a walk gave.
+fn put_walked(walked: Walked, out: &mut [u8], at: usize) -> Asked {
+    let kept = walked.kept;
+    let said = walked.said;
+    Asked {
+        kept,
+        at: put_said(out, at, said),
+    }
+}
+
+// Makes a call that changes no slot, and puts what it gave.
+fn ask(
+    number: usize,
+    words: &[usize],
+    slots: &[u32],
+    kept: Kept,
+    other_slots: &[u32],
+    other: Kept,
+    out: &mut [u8],
+    at: usize,
+) -> Asked {
+    let holding = kept.holding;
+    let second = other.holding;
+    match number {
+        26 | 27 => Asked {
+            kept,
+            at: put_said(
+                out,
+                at,
+                compare(number, slots, holding, other_slots, second),
+            ),
+        },
+        29 | 30 | 42 => Asked {
+            kept,
+            at: put_list(number, slots, holding, words, out, at),
+        },
+        38..=40 => put_walked(walk(number, slots, kept), out, at),
+        90..=94 => Asked {
+            kept: set(number, kept, words),
+            at: put_said(out, at, say_done(0)),
+        },
+        _ => Asked {
+            kept,
+            at: put_said(out, at, look(number, slots, holding, words)),
+        },
+    }
+}
+
+// The same on either queue.
+fn call_ask(
+    number: usize,
+    words: &[usize],
+    a_slots: &[u32],
+    a: Kept,
+    b_slots: &[u32],
+    b: Kept,
+    side: Side,
+    out: &mut [u8],
+    at: usize,
+) -> Called {
+    match side {
+        Side::A => {
+            let asked = ask(number, words, a_slots, a, b_slots, b, out, at);
+            let kept = asked.kept;
+            Called {
+                a: kept,
+                b,
+                at: asked.at,
+            }
+        }
+        Side::B => {
+            let asked = ask(number, words, b_slots, b, a_slots, a, out, at);
+            let kept = asked.kept;
+            Called {
+                a,
+                b: kept,
+                at: asked.at,
+            }
+        }
     }
 }
 
@@ -72,116 +195,63 @@ fn put_pair_step(out: &mut [u8], at: usize, step: PairStep) -> Called {
 fn call(
     number: usize,
     words: &[usize],
-    slots: &mut [u32],
+    a_slots: &mut [u32],
+    a: Kept,
+    b_slots: &mut [u32],
+    b: Kept,
     side: Side,
-    other_slots: &mut [u32],
-    other: Side,
     out: &mut [u8],
     at: usize,
 ) -> Called {
     match number {
-        22 | 23 | 26 | 27 | 93 => put_pair_step(
-            out,
-            at,
-            call_both(number, slots, side, other_slots, other, words),
-        ),
-        29 | 30 | 42 => Called {
-            side,
-            other,
-            at: put_list(number, slots, side.queue, words, out, at),
-        },
-        _ => put_step(out, at, call_one(number, slots, side, words), other),
+        93 => call_plant(words, a_slots, b_slots, out, at),
+        0..=6 | 10..=24 | 33..=37 | 41 => {
+            call_turn(number, words, a_slots, a, b_slots, b, side, out, at)
+        }
+        _ => call_ask(number, words, a_slots, a, b_slots, b, side, out, at),
     }
 }
 
-// Puts the two queues behind what the call gave, and ends the line.
-fn show(
+// Makes a line's call on a queue, and puts the two queues behind what it gave.
+fn play_on(
+    side: Side,
+    words: &[usize],
+    a_slots: &mut [u32],
+    b_slots: &mut [u32],
     out: &mut [u8],
-    at: usize,
-    a_slots: &[u32],
-    a: Side,
-    b_slots: &[u32],
-    b: Side,
+    now: Now,
     piece: Piece,
 ) -> Turn {
-    let now = put_sides(out, at, a_slots, a, b_slots, b);
+    let a = now.a;
+    let b = now.b;
+    let called = call(
+        word(words, 1),
+        rest(words, 2),
+        a_slots,
+        a,
+        b_slots,
+        b,
+        side,
+        out,
+        now.at,
+    );
+    let next_a = called.a;
+    let next_b = called.b;
+    let at = put_queues(out, called.at, a_slots, next_a, b_slots, next_b);
     Turn::Next(Now {
         piece,
-        a,
-        b,
-        at: now,
+        a: next_a,
+        b: next_b,
+        at,
     })
 }
 
-// Makes a line's call on A.
-fn play_on_a(
-    words: &[usize],
-    a_slots: &mut [u32],
-    b_slots: &mut [u32],
-    out: &mut [u8],
-    now: Now,
-    piece: Piece,
-) -> Turn {
-    let a = now.a;
-    let b = now.b;
-    let called = call(
-        word(words, 1),
-        rest(words, 2),
-        a_slots,
-        a,
-        b_slots,
-        b,
-        out,
-        now.at,
-    );
-    let side = called.side;
-    let other = called.other;
-    show(out, called.at, a_slots, side, b_slots, other, piece)
-}
-
-// Makes a line's call on B.
-fn play_on_b(
-    words: &[usize],
-    a_slots: &mut [u32],
-    b_slots: &mut [u32],
-    out: &mut [u8],
-    now: Now,
-    piece: Piece,
-) -> Turn {
-    let a = now.a;
-    let b = now.b;
-    let called = call(
-        word(words, 1),
-        rest(words, 2),
-        b_slots,
-        b,
-        a_slots,
-        a,
-        out,
-        now.at,
-    );
-    let side = called.side;
-    let other = called.other;
-    show(out, called.at, a_slots, other, b_slots, side, piece)
-}
-
 // Whether the words are a call on this queue.
-fn is_call(words: &[usize], side: Side) -> bool {
+fn is_call(words: &[usize], kept: Kept) -> bool {
     if words.len() < 2 {
         return false;
     }
-    well_formed(words[1], rest(words, 2), side.is_open())
-}
-
-// The queue that a line calls on. Call 93 sets both queues, and is made on A.
-fn queue_of(words: &[usize]) -> usize {
-    let q = word(words, 0);
-    if word(words, 1) == 93 {
-        if q == 1 {
-            return 0;
-        }
-    }
-    q
+    well_formed(words[1], rest(words, 2), kept.is_open())
 }
 
 // Makes a line's call, and puts its line of output.
@@ -193,18 +263,23 @@ fn play_line(
     now: Now,
     piece: Piece,
 ) -> Turn {
-    let q = queue_of(words);
-    if q == 0 {
-        if is_call(words, now.a) {
-            return play_on_a(words, a_slots, b_slots, out, now, piece);
+    let a = now.a;
+    let b = now.b;
+    match word(words, 0) {
+        0 => {
+            if is_call(words, a) {
+                return play_on(Side::A, words, a_slots, b_slots, out, now, piece);
+            }
+            Turn::Broken
         }
-    }
-    if q == 1 {
-        if is_call(words, now.b) {
-            return play_on_b(words, a_slots, b_slots, out, now, piece);
+        1 => {
+            if is_call(words, b) {
+                return play_on(Side::B, words, a_slots, b_slots, out, now, piece);
+            }
+            Turn::Broken
         }
+        _ => Turn::Broken,
     }
-    Turn::Broken
 }
 
 // The first words of a line.

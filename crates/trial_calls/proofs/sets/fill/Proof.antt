@@ -3,10 +3,10 @@ use mathlib.Core.Path.{_≡_}
 use native.Mathlib.Omega.{arith}
 use lib.ListN.{length, length-set}
 use borrow.Author.Needs.{needs}
-use Rattle.trial_calls.proofs.pairs.fill.Statement.{statement}
-use Rattle.trial_calls.proofs.pairs.fill.Tie as tie
-use Rattle.trial_calls.proofs.pairs.fill.Reads as reads
-use Rattle.trial_calls.proofs.pairs.fill.Lts as lts
+use Rattle.trial_calls.proofs.sets.fill.Statement.{statement}
+use Rattle.trial_calls.proofs.sets.fill.Tie as tie
+use Rattle.trial_calls.proofs.sets.fill.Reads as reads
+use Rattle.trial_calls.proofs.sets.fill.Lts as lts
 use Rattle.std.proofs.num.wrapping_add_u32.Reads as wrapping-add-u32-reads
 
 abbrev Inv-loop : tie.InvT-loop
