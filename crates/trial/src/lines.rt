@@ -1,18 +1,19 @@
 // A line of output: what the call gave, and the two queues.
 use trial_calls::Kept;
-use trial_calls::TARGET;
+use trial_calls::Queues;
 use trial_calls::Walking;
 use trial_calls::said;
 use trial_calls::said::Said;
 use trial_calls::said::letter;
-use trial_calls::word;
-use trial_calls::written;
+use trial_looks::written;
+use trial_text::TARGET;
 use trial_text::put_byte;
 use trial_text::put_number;
 use trial_text::put_slots;
 use trial_text::put_spaced;
 use trial_text::put_text;
 use trial_text::put_values;
+use trial_text::word;
 use turns::Holding;
 use vec_deque::Deque;
 use vec_deque::Drain;
@@ -221,10 +222,11 @@ pub fn put_queues(
     out: &mut [u8],
     at: usize,
     a_slots: &[u32],
-    a: Kept,
     b_slots: &[u32],
-    b: Kept,
+    queues: Queues,
 ) -> usize {
+    let a = queues.a;
+    let b = queues.b;
     let first = put_queue(out, at, a_slots, a);
     let second = put_queue(out, first, b_slots, b);
     put_byte(out, second, b'\n')

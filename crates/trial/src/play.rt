@@ -4,48 +4,33 @@ use crate::lines::put_first;
 use crate::lines::put_list;
 use crate::lines::put_queues;
 use crate::lines::put_said;
-use trial_calls::Kept;
-use trial_calls::Walked;
-use trial_calls::change;
-use trial_calls::compare;
-use trial_calls::fill;
-use trial_calls::look;
-use trial_calls::plant;
+use trial_calls::Done;
+use trial_calls::Queues;
 use trial_calls::quiet;
 use trial_calls::record;
-use trial_calls::rest;
-use trial_calls::said::say_done;
-use trial_calls::say_turned;
-use trial_calls::set;
-use trial_calls::walk;
-use trial_calls::well_formed;
-use trial_calls::word;
+use trial_looks::call;
+use trial_looks::fill;
+use trial_looks::slots_of;
 use trial_text::First;
 use trial_text::Piece;
 use trial_text::Read;
 use trial_text::first_line;
 use trial_text::next_words;
+use trial_text::rest;
+use trial_text::well_formed;
+use trial_text::word;
 use turns::Side;
-use turns::Turned;
 
 // After a call: the two queues, and the bytes that the output's buffer holds.
 struct Called {
-    a: Kept,
-    b: Kept,
+    queues: Queues,
     at: usize,
 }
 
-// After a call on one queue that changes no slot of either.
-struct Asked {
-    kept: Kept,
-    at: usize,
-}
-
-// After a line: the piece of the input behind it, the two queues, and the bytes that the output's buffer holds.
+// After a line: the same, and the piece of the input behind it.
 struct Now {
     piece: Piece,
-    a: Kept,
-    b: Kept,
+    queues: Queues,
     at: usize,
 }
 
@@ -56,159 +41,50 @@ enum Turn {
     End,
 }
 
-// Puts what a call gave that can change a queue.
-fn put_turned(
-    number: usize,
-    a: Kept,
-    b: Kept,
-    turned: Turned,
-    out: &mut [u8],
-    at: usize,
-) -> Called {
-    let first = turned.a;
-    let second = turned.b;
+// Puts what a call gave.
+fn put_done(done: Done, out: &mut [u8], at: usize) -> Called {
+    let queues = done.queues;
+    let said = done.said;
     Called {
-        a: a.with_holding(first),
-        b: b.with_holding(second),
-        at: put_said(out, at, say_turned(number, turned)),
-    }
-}
-
-// Makes a call that can change a queue, and puts what it gave.
-fn call_turn(
-    number: usize,
-    words: &[usize],
-    a_slots: &mut [u32],
-    a: Kept,
-    b_slots: &mut [u32],
-    b: Kept,
-    side: Side,
-    out: &mut [u8],
-    at: usize,
-) -> Called {
-    let first = a.holding;
-    let second = b.holding;
-    let turned = change(number, words, a_slots, first, b_slots, second, side);
-    put_turned(number, a, b, turned, out, at)
-}
-
-// 93: A gets the slots 10, 11, .. and the record, B the slots 20, 21 and a record whose two elements wrap.
-fn call_plant(
-    words: &[usize],
-    a_slots: &mut [u32],
-    b_slots: &mut [u32],
-    out: &mut [u8],
-    at: usize,
-) -> Called {
-    let a = plant(a_slots, 10, word(words, 0), word(words, 1));
-    let b = plant(b_slots, 20, 1, 2);
-    Called {
-        a,
-        b,
-        at: put_said(out, at, say_done(0)),
-    }
-}
-
-// Puts what a call on a walk gave.
-fn put_walked(walked: Walked, out: &mut [u8], at: usize) -> Asked {
-    let kept = walked.kept;
-    let said = walked.said;
-    Asked {
-        kept,
+        queues,
         at: put_said(out, at, said),
     }
 }
 
-// Makes a call that changes no slot, and puts what it gave.
-fn ask(
+// Makes a call that answers with a list, and puts what it gave.
+fn call_list<'a>(
     number: usize,
     words: &[usize],
-    slots: &[u32],
-    kept: Kept,
-    other_slots: &[u32],
-    other: Kept,
-    out: &mut [u8],
-    at: usize,
-) -> Asked {
-    let holding = kept.holding;
-    let second = other.holding;
-    match number {
-        26 | 27 => Asked {
-            kept,
-            at: put_said(
-                out,
-                at,
-                compare(number, slots, holding, other_slots, second),
-            ),
-        },
-        29 | 30 | 42 => Asked {
-            kept,
-            at: put_list(number, slots, holding, words, out, at),
-        },
-        38..=40 => put_walked(walk(number, slots, kept), out, at),
-        90..=94 => Asked {
-            kept: set(number, kept, words),
-            at: put_said(out, at, say_done(0)),
-        },
-        _ => Asked {
-            kept,
-            at: put_said(out, at, look(number, slots, holding, words)),
-        },
-    }
-}
-
-// The same on either queue.
-fn call_ask(
-    number: usize,
-    words: &[usize],
-    a_slots: &[u32],
-    a: Kept,
-    b_slots: &[u32],
-    b: Kept,
+    a_slots: &'a [u32],
+    b_slots: &'a [u32],
+    queues: Queues,
     side: Side,
     out: &mut [u8],
     at: usize,
 ) -> Called {
-    match side {
-        Side::A => {
-            let asked = ask(number, words, a_slots, a, b_slots, b, out, at);
-            let kept = asked.kept;
-            Called {
-                a: kept,
-                b,
-                at: asked.at,
-            }
-        }
-        Side::B => {
-            let asked = ask(number, words, b_slots, b, a_slots, a, out, at);
-            let kept = asked.kept;
-            Called {
-                a,
-                b: kept,
-                at: asked.at,
-            }
-        }
+    let kept = queues.of(side);
+    let holding = kept.holding;
+    let slots = slots_of(side, a_slots, b_slots);
+    Called {
+        queues,
+        at: put_list(number, slots, holding, words, out, at),
     }
 }
 
 // Makes a call, and puts what it gave.
-fn call(
+fn call_and_put(
     number: usize,
     words: &[usize],
     a_slots: &mut [u32],
-    a: Kept,
     b_slots: &mut [u32],
-    b: Kept,
+    queues: Queues,
     side: Side,
     out: &mut [u8],
     at: usize,
 ) -> Called {
     match number {
-        93 => call_plant(words, a_slots, b_slots, out, at),
-        0..=6 | 10..=24 | 33..=37 | 41 => {
-            call_turn(number, words, a_slots, a, b_slots, b, side, out, at)
-        }
-        _ => call_ask(number, words, a_slots, a, b_slots, b, side, out, at),
+        29 | 30 | 42 => call_list(number, words, a_slots, b_slots, queues, side, out, at),
+        _ => put_done(call(number, words, a_slots, b_slots, queues, side), out, at),
     }
 }
 
@@ -222,36 +98,41 @@ fn play_on(
     now: Now,
     piece: Piece,
 ) -> Turn {
-    let a = now.a;
-    let b = now.b;
-    let called = call(
-        word(words, 1),
+    let queues = now.queues;
+    let number = word(words, 1);
+    let called = call_and_put(
+        number,
         rest(words, 2),
         a_slots,
-        a,
         b_slots,
-        b,
+        queues,
         side,
         out,
         now.at,
     );
-    let next_a = called.a;
-    let next_b = called.b;
-    let at = put_queues(out, called.at, a_slots, next_a, b_slots, next_b);
+    let left = called.queues;
     Turn::Next(Now {
         piece,
-        a: next_a,
-        b: next_b,
-        at,
+        queues: left,
+        at: put_queues(out, called.at, a_slots, b_slots, left),
     })
 }
 
 // Whether the words are a call on this queue.
-fn is_call(words: &[usize], kept: Kept) -> bool {
+fn is_call(words: &[usize], queues: Queues, side: Side) -> bool {
     if words.len() < 2 {
         return false;
     }
+    let kept = queues.of(side);
     well_formed(words[1], rest(words, 2), kept.is_open())
+}
+
+// The queue that a word names; only 0 and 1 are names.
+fn side_of(word: usize) -> Side {
+    match word {
+        0 => Side::A,
+        _ => Side::B,
+    }
 }
 
 // Makes a line's call, and puts its line of output.
@@ -263,23 +144,15 @@ fn play_line(
     now: Now,
     piece: Piece,
 ) -> Turn {
-    let a = now.a;
-    let b = now.b;
-    match word(words, 0) {
-        0 => {
-            if is_call(words, a) {
-                return play_on(Side::A, words, a_slots, b_slots, out, now, piece);
-            }
-            Turn::Broken
+    let queues = now.queues;
+    let q = word(words, 0);
+    let side = side_of(q);
+    if q < 2 {
+        if is_call(words, queues, side) {
+            return play_on(side, words, a_slots, b_slots, out, now, piece);
         }
-        1 => {
-            if is_call(words, b) {
-                return play_on(Side::B, words, a_slots, b_slots, out, now, piece);
-            }
-            Turn::Broken
-        }
-        _ => Turn::Broken,
     }
+    Turn::Broken
 }
 
 // The first words of a line.
@@ -347,8 +220,10 @@ fn play(
     let at = put_first(out, a_slots.len(), b_slots.len());
     let begin = Now {
         piece,
-        a: quiet(record(0, 0)),
-        b: quiet(record(0, 0)),
+        queues: Queues {
+            a: quiet(record(0, 0)),
+            b: quiet(record(0, 0)),
+        },
         at,
     };
     play_lines(buf, a_slots, b_slots, out, begin)

@@ -3,13 +3,15 @@ use crate::operands::Operands;
 use crate::operands::copy_bytes;
 use crate::operands::copy_elements;
 use crate::operands::first_two;
-use crate::operands::rest;
 use crate::said;
 use crate::said::Said;
 use crate::said::say;
 use crate::said::say_element;
 use crate::said::say_nothing;
+use crate::state::Done;
+use crate::state::Queues;
 use answers::Given;
+use trial_text::rest;
 use turns::Call;
 use turns::DrainStep;
 use turns::Edit;
@@ -117,8 +119,8 @@ fn front_bytes(bytes: &[u8], count: usize) -> &[u8] {
     bytes
 }
 
-// Makes a call that can change a queue. Its list is lent both as values and as bytes.
-pub fn change(
+// Makes a line's call. Its list is lent both as values and as bytes.
+fn turned(
     number: usize,
     words: &[usize],
     a_slots: &mut [u32],
@@ -165,10 +167,42 @@ fn say_none(number: usize, refused: usize, moved: usize) -> Said {
 }
 
 // What a call says that can change a queue.
-pub fn say_turned(number: usize, turned: Turned) -> Said {
+fn say_turned(number: usize, turned: Turned) -> Said {
     let handed = turned.handed;
     match handed {
         Given::Number(element) => say_element(turned.moved, element),
         Given::Nothing => say_none(number, turned.refused, turned.moved),
+    }
+}
+
+// The queues with the records that a call left.
+fn with_turned(queues: Queues, turned: Turned) -> Queues {
+    let a = queues.a;
+    let b = queues.b;
+    let first = turned.a;
+    let second = turned.b;
+    Queues {
+        a: a.with_holding(first),
+        b: b.with_holding(second),
+    }
+}
+
+// Makes a call that can change a queue.
+pub fn change(
+    number: usize,
+    words: &[usize],
+    a_slots: &mut [u32],
+    b_slots: &mut [u32],
+    queues: Queues,
+    side: Side,
+) -> Done {
+    let a = queues.a;
+    let b = queues.b;
+    let first = a.holding;
+    let second = b.holding;
+    let left = turned(number, words, a_slots, first, b_slots, second, side);
+    Done {
+        queues: with_turned(queues, left),
+        said: say_turned(number, left),
     }
 }

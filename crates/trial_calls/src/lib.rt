@@ -1,28 +1,14 @@
-// The calls of a trial script on the two queues: the words of a line come in, and what the call leaves goes out.
-mod changes; // changes.rt: the calls that can change a queue, made by `turns`
-mod looks; // looks.rt: the calls that only look
-mod operands; // operands.rt: the words of a call
-mod replies; // replies.rt: what the calls that only look say
+// The calls of a trial script that can change a queue: the words of a line become a call of `turns`, and what it leaves goes out.
+mod changes; // changes.rt: the calls
+pub mod operands; // operands.rt: the words of a call
 pub mod said; // said.rt: what a line of output says
-mod sets; // sets.rt: the calls that set a state
-mod state; // state.rt: what is kept of a queue
-mod steps; // steps.rt: the walks
+mod state; // state.rt: what is kept of the two queues
 
 pub use changes::change;
-pub use changes::say_turned;
-pub use looks::compare;
-pub use looks::look;
-pub use operands::TARGET;
-pub use operands::rest;
-pub use operands::well_formed;
-pub use operands::word;
-pub use replies::written;
-pub use sets::fill;
-pub use sets::plant;
-pub use sets::set;
+pub use state::Done;
 pub use state::Kept;
+pub use state::Queues;
 pub use state::Walking;
+pub use state::other;
 pub use state::quiet;
 pub use state::record;
-pub use steps::Walked;
-pub use steps::walk;

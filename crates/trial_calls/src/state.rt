@@ -1,5 +1,7 @@
-// What the program keeps of each queue beside its slots.
+// What the program keeps of each queue beside its slots, and what a call leaves.
+use crate::said::Said;
 use turns::Holding;
+use turns::Side;
 use vec_deque::Deque;
 use vec_deque::Walk;
 use vec_deque::WrappedIndex;
@@ -54,6 +56,48 @@ impl Kept {
         match holding {
             Holding::Open(_) => true,
             Holding::Shut(_) => false,
+        }
+    }
+}
+
+// The two queues.
+pub struct Queues {
+    pub a: Kept,
+    pub b: Kept,
+}
+
+// What a call leaves and says.
+pub struct Done {
+    pub queues: Queues,
+    pub said: Said,
+}
+
+// The other queue.
+pub fn other(side: Side) -> Side {
+    match side {
+        Side::A => Side::B,
+        Side::B => Side::A,
+    }
+}
+
+impl Queues {
+    // What is kept of one of them.
+    pub fn of(self, side: Side) -> Kept {
+        let a = self.a;
+        let b = self.b;
+        match side {
+            Side::A => a,
+            Side::B => b,
+        }
+    }
+
+    // The queues with one of them changed.
+    pub fn with(self, side: Side, kept: Kept) -> Queues {
+        let a = self.a;
+        let b = self.b;
+        match side {
+            Side::A => Queues { a: kept, b },
+            Side::B => Queues { a, b: kept },
         }
     }
 }

@@ -1,15 +1,15 @@
 // What the calls that only look say.
-use crate::said;
-use crate::said::Said;
-use crate::said::say;
-use crate::said::say_done;
-use crate::said::say_element;
-use crate::said::say_nothing;
-use crate::said::say_number;
-use crate::said::say_runs;
-use crate::state::Kept;
-use crate::steps::Walked;
+use crate::steps::Asked;
 use answers::number_of;
+use trial_calls::Kept;
+use trial_calls::said;
+use trial_calls::said::Said;
+use trial_calls::said::say;
+use trial_calls::said::say_done;
+use trial_calls::said::say_element;
+use trial_calls::said::say_nothing;
+use trial_calls::said::say_number;
+use trial_calls::said::say_runs;
 use vec_deque::Begun;
 use vec_deque::Found;
 use vec_deque::Ordering;
@@ -92,13 +92,13 @@ pub fn written(written: Written) -> Said {
 }
 
 // After a walk's beginning.
-pub fn begun(kept: Kept, begun: Begun) -> Walked {
+pub fn begun(kept: Kept, begun: Begun) -> Asked {
     match begun {
-        Begun::Walk(walk) => Walked {
+        Begun::Walk(walk) => Asked {
             kept: kept.with_walk(walk),
             said: say_done(0),
         },
-        Begun::Refused(refusal) => Walked {
+        Begun::Refused(refusal) => Asked {
             kept,
             said: say_refused(refusal),
         },
@@ -106,17 +106,17 @@ pub fn begun(kept: Kept, begun: Begun) -> Walked {
 }
 
 // After a walk's step.
-pub fn walked(kept: Kept, stepped: Stepped) -> Walked {
+pub fn walked(kept: Kept, stepped: Stepped) -> Asked {
     match stepped {
-        Stepped::Number { number, walk } => Walked {
+        Stepped::Number { number, walk } => Asked {
             kept: kept.with_walk(walk),
             said: say_element(0, number),
         },
-        Stepped::Nothing { walk } => Walked {
+        Stepped::Nothing { walk } => Asked {
             kept: kept.with_walk(walk),
             said: say_nothing(0),
         },
-        Stepped::Refused { refusal, walk } => Walked {
+        Stepped::Refused { refusal, walk } => Asked {
             kept: kept.with_walk(walk),
             said: say_refused(refusal),
         },

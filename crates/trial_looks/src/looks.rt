@@ -1,9 +1,9 @@
 // The calls that only look. While a drain is open they are passed over.
-use crate::operands::Operands;
-use crate::operands::first_two;
 use crate::replies;
-use crate::said::Said;
-use crate::said::say_done;
+use trial_calls::operands::Operands;
+use trial_calls::operands::first_two;
+use trial_calls::said::Said;
+use trial_calls::said::say_done;
 use turns::Holding;
 use vec_deque::Deque;
 use vec_deque::Found;
