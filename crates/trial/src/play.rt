@@ -1,33 +1,19 @@
 // A script, line by line.
-use crate::lines::put_broken;
-use crate::lines::put_first;
-use crate::lines::put_list;
-use crate::lines::put_queues;
-use crate::lines::put_said;
-use trial_calls::Done;
 use trial_calls::Queues;
 use trial_calls::quiet;
 use trial_calls::record;
-use trial_looks::call;
+use trial_lines::is_call;
+use trial_lines::play_call;
+use trial_lines::put_broken;
+use trial_lines::put_first;
 use trial_looks::fill;
-use trial_looks::slots_of;
 use trial_text::First;
 use trial_text::Piece;
 use trial_text::Read;
 use trial_text::first_line;
 use trial_text::next_words;
-use trial_text::rest;
-use trial_text::well_formed;
-use trial_text::word;
-use turns::Side;
 
-// After a call: the two queues, and the bytes that the output's buffer holds.
-struct Called {
-    queues: Queues,
-    at: usize,
-}
-
-// After a line: the same, and the piece of the input behind it.
+// After a line: the piece of the input behind it, the two queues, and the bytes that the output's buffer holds.
 struct Now {
     piece: Piece,
     queues: Queues,
@@ -41,101 +27,7 @@ enum Turn {
     End,
 }
 
-// Puts what a call gave.
-fn put_done(done: Done, out: &mut [u8], at: usize) -> Called {
-    let queues = done.queues;
-    let said = done.said;
-    Called {
-        queues,
-        at: put_said(out, at, said),
-    }
-}
-
-// Makes a call that answers with a list, and puts what it gave.
-fn call_list<'a>(
-    number: usize,
-    words: &[usize],
-    a_slots: &'a [u32],
-    b_slots: &'a [u32],
-    queues: Queues,
-    side: Side,
-    out: &mut [u8],
-    at: usize,
-) -> Called {
-    let kept = queues.of(side);
-    let holding = kept.holding;
-    let slots = slots_of(side, a_slots, b_slots);
-    Called {
-        queues,
-        at: put_list(number, slots, holding, words, out, at),
-    }
-}
-
-// Makes a call, and puts what it gave.
-fn call_and_put(
-    number: usize,
-    words: &[usize],
-    a_slots: &mut [u32],
-    b_slots: &mut [u32],
-    queues: Queues,
-    side: Side,
-    out: &mut [u8],
-    at: usize,
-) -> Called {
-    match number {
-        29 | 30 | 42 => call_list(number, words, a_slots, b_slots, queues, side, out, at),
-        _ => put_done(call(number, words, a_slots, b_slots, queues, side), out, at),
-    }
-}
-
-// Makes a line's call on a queue, and puts the two queues behind what it gave.
-fn play_on(
-    side: Side,
-    words: &[usize],
-    a_slots: &mut [u32],
-    b_slots: &mut [u32],
-    out: &mut [u8],
-    now: Now,
-    piece: Piece,
-) -> Turn {
-    let queues = now.queues;
-    let number = word(words, 1);
-    let called = call_and_put(
-        number,
-        rest(words, 2),
-        a_slots,
-        b_slots,
-        queues,
-        side,
-        out,
-        now.at,
-    );
-    let left = called.queues;
-    Turn::Next(Now {
-        piece,
-        queues: left,
-        at: put_queues(out, called.at, a_slots, b_slots, left),
-    })
-}
-
-// Whether the words are a call on this queue.
-fn is_call(words: &[usize], queues: Queues, side: Side) -> bool {
-    if words.len() < 2 {
-        return false;
-    }
-    let kept = queues.of(side);
-    well_formed(words[1], rest(words, 2), kept.is_open())
-}
-
-// The queue that a word names; only 0 and 1 are names.
-fn side_of(word: usize) -> Side {
-    match word {
-        0 => Side::A,
-        _ => Side::B,
-    }
-}
-
-// Makes a line's call, and puts its line of output.
+// Plays a line that was read.
 fn play_line(
     words: &[usize],
     a_slots: &mut [u32],
@@ -145,12 +37,14 @@ fn play_line(
     piece: Piece,
 ) -> Turn {
     let queues = now.queues;
-    let q = word(words, 0);
-    let side = side_of(q);
-    if q < 2 {
-        if is_call(words, queues, side) {
-            return play_on(side, words, a_slots, b_slots, out, now, piece);
-        }
+    if is_call(words, queues) {
+        let called = play_call(words, a_slots, b_slots, queues, out, now.at);
+        let left = called.queues;
+        return Turn::Next(Now {
+            piece,
+            queues: left,
+            at: called.at,
+        });
     }
     Turn::Broken
 }
