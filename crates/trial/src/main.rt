@@ -1,6 +1,5 @@
 // Reads a script of calls on two queues, A and B, over separate slots, and writes what each call gave: how the proved queue is held
 // against anything else.
-mod lines;
 mod play;
 
 // The slots of A and B, a piece of the input, and a piece of the output.

@@ -1,23 +1,14 @@
-// The calls of a trial script on the two queues: the words of a line come in, and what the call leaves goes out.
-mod answers;
-mod calls;
-mod operands;
-mod pairs;
-pub mod said;
-mod state;
+// The calls of a trial script that can change a queue: the words of a line become a call of `turns`, and what it leaves goes out.
+mod changes; // changes.rt: the calls
+pub mod operands; // operands.rt: the words of a call
+pub mod said; // said.rt: what a line of output says
+mod state; // state.rt: what is kept of the two queues
 
-pub use answers::written;
-pub use calls::call_one;
-pub use operands::TARGET;
-pub use operands::rest;
-pub use operands::well_formed;
-pub use operands::word;
-pub use pairs::call_both;
-pub use pairs::fill;
-pub use state::Draining;
-pub use state::PairStep;
-pub use state::Side;
-pub use state::Step;
+pub use changes::change;
+pub use state::Done;
+pub use state::Kept;
+pub use state::Queues;
 pub use state::Walking;
+pub use state::other;
 pub use state::quiet;
 pub use state::record;

@@ -1,15 +1,10 @@
 // What the program keeps of each queue beside its slots, and what a call leaves.
 use crate::said::Said;
+use turns::Holding;
+use turns::Side;
 use vec_deque::Deque;
-use vec_deque::Drain;
 use vec_deque::Walk;
 use vec_deque::WrappedIndex;
-
-// A queue's open drain, if it has one.
-pub enum Draining {
-    Shut,
-    Open(Drain),
-}
 
 // A queue's walk, if it has one.
 pub enum Walking {
@@ -17,30 +12,10 @@ pub enum Walking {
     Begun(Walk),
 }
 
-// One of the two queues.
-pub struct Side {
-    pub queue: Deque,
-    pub drain: Draining,
+// A queue's record or that of its open drain, and its walk.
+pub struct Kept {
+    pub holding: Holding,
     pub walk: Walking,
-}
-
-// What a call on one queue leaves that changes no more than its record.
-pub struct Reply {
-    pub queue: Deque,
-    pub said: Said,
-}
-
-// What a call on one queue leaves.
-pub struct Step {
-    pub side: Side,
-    pub said: Said,
-}
-
-// What a call on both queues leaves.
-pub struct PairStep {
-    pub side: Side,
-    pub other: Side,
-    pub said: Said,
 }
 
 // A record of any two numbers.
@@ -51,47 +26,78 @@ pub fn record(head: usize, len: usize) -> Deque {
     }
 }
 
-// A queue with this record, no drain and no walk.
-pub fn quiet(queue: Deque) -> Side {
-    Side {
-        queue,
-        drain: Draining::Shut,
+// A queue with this record, and no walk.
+pub fn quiet(queue: Deque) -> Kept {
+    Kept {
+        holding: Holding::Shut(queue),
         walk: Walking::Still,
     }
 }
 
-impl Side {
-    // The same queue with another record.
-    pub fn with_record(self, queue: Deque) -> Side {
-        let drain = self.drain;
+impl Kept {
+    // The same walk, beside another record.
+    pub fn with_holding(self, holding: Holding) -> Kept {
         let walk = self.walk;
-        Side { queue, drain, walk }
+        Kept { holding, walk }
     }
 
-    // The same queue with another drain, or none.
-    pub fn with_drain(self, drain: Draining) -> Side {
-        let queue = self.queue;
-        let walk = self.walk;
-        Side { queue, drain, walk }
-    }
-
-    // The same queue with another walk.
-    pub fn with_walk(self, walk: Walk) -> Side {
-        let queue = self.queue;
-        let drain = self.drain;
-        Side {
-            queue,
-            drain,
+    // The same record, beside another walk.
+    pub fn with_walk(self, walk: Walk) -> Kept {
+        let holding = self.holding;
+        Kept {
+            holding,
             walk: Walking::Begun(walk),
         }
     }
 
     // Whether the queue's drain is open.
     pub fn is_open(self) -> bool {
-        let drain = self.drain;
-        match drain {
-            Draining::Open(_) => true,
-            Draining::Shut => false,
+        let holding = self.holding;
+        match holding {
+            Holding::Open(_) => true,
+            Holding::Shut(_) => false,
+        }
+    }
+}
+
+// The two queues.
+pub struct Queues {
+    pub a: Kept,
+    pub b: Kept,
+}
+
+// What a call leaves and says.
+pub struct Done {
+    pub queues: Queues,
+    pub said: Said,
+}
+
+// The other queue.
+pub fn other(side: Side) -> Side {
+    match side {
+        Side::A => Side::B,
+        Side::B => Side::A,
+    }
+}
+
+impl Queues {
+    // What is kept of one of them.
+    pub fn of(self, side: Side) -> Kept {
+        let a = self.a;
+        let b = self.b;
+        match side {
+            Side::A => a,
+            Side::B => b,
+        }
+    }
+
+    // The queues with one of them changed.
+    pub fn with(self, side: Side, kept: Kept) -> Queues {
+        let a = self.a;
+        let b = self.b;
+        match side {
+            Side::A => Queues { a: kept, b },
+            Side::B => Queues { a, b: kept },
         }
     }
 }

@@ -2,7 +2,7 @@
 use mathlib.Core.List.{List}
 use Prim.Native.Nat.{ℕ}
 use Rattle.conditions.specs.Tests.{testOf}
-use Rattle.rules.specs.Calls.{Op, pushBack!, pushFront!, popFront!, popBack!, popFrontIf!, popBackIf!, truncate!, truncateFront!, clear!, extend!, prepend!, extendFront!, resize!, insert!, remove!, swap!, swapRemoveFront!, swapRemoveBack!, retain!, splice! }
+use Rattle.rules.specs.Calls.{pushBack!, pushFront!, popFront!, popBack!, popFrontIf!, popBackIf!, truncate!, truncateFront!, clear!, extend!, prepend!, extendFront!, resize!, insert!, remove!, swap!, swapRemoveFront!, swapRemoveBack!, retain!, splice!, Op}
 use Rattle.rules.specs.Sequences as rules
 use Rattle.turns.specs.declared.calls.Edit.{Edit}
 use Rattle.turns.specs.declared.calls.Edit.the-variants.{PushBack, PushFront, Truncate, TruncateFront, Clear, Resize, Insert, Swap, Retain}

@@ -2,63 +2,43 @@ use mathlib.Core.Path.{_∙_}
 use borrow.Author.Needs.{needs}
 use Rattle.trial.proofs.play.play.Statement.{statement}
 use Rattle.trial.proofs.play.play.Tie as tie
-use Rattle.trial.proofs.play.play.Reads as reads
-use Rattle.trial.proofs.play.play.Lts as lts
-use Rattle.trial.proofs.lines.put_first.Reads as put-first-reads
-use Rattle.trial.proofs.play.play_lines.Reads as play-lines-reads
-use Rattle.trial_calls.proofs.fill.Reads as fill-reads
-use Rattle.trial_calls.proofs.quiet.Reads as quiet-reads
-use Rattle.trial_calls.proofs.record.Reads as record-reads
 
--- src/play.rt:270:5
 fill-requires : tie.Need-fill-requires
 fill-requires c κs = search needs
 
--- src/play.rt:271:5
 fill-requires-2 : tie.Need-fill-requires-2
 fill-requires-2 c κs = search needs
 
--- src/play.rt:272:9
 put-first-requires : tie.Need-put-first-requires
 put-first-requires c κs = search needs
 
--- src/play.rt:275:18
 record-requires : tie.Need-record-requires
 record-requires c κs = search needs
 
--- src/play.rt:275:12
 quiet-requires : tie.Need-quiet-requires
 quiet-requires c κs = search needs
 
--- src/play.rt:276:18
 record-requires-2 : tie.Need-record-requires-2
 record-requires-2 c κs = search needs
 
--- src/play.rt:276:12
 quiet-requires-2 : tie.Need-quiet-requires-2
 quiet-requires-2 c κs = search needs
 
--- src/play.rt:279:5
 play-lines-requires : tie.Need-play-lines-requires
 play-lines-requires c κs = search needs
 
--- src/play.rt:263:1
 same-length : tie.Need-same-length
 same-length c = search needs
 
--- src/play.rt:263:1
 same-length-2 : tie.Need-same-length-2
 same-length-2 c = c .before .before .before .before .before .before .before .before .play-lines .kept .1 .0 ∙ c .before .before .before .before .before .before .before .before .before .before .before .before .before .before .before .before .before .before .before .before .before .before .before .before .before .before .before .fill .kept .0
 
--- src/play.rt:263:1
 same-length-3 : tie.Need-same-length-3
 same-length-3 c = c .before .before .before .before .before .before .before .before .play-lines .kept .1 .1 .0 ∙ c .before .before .before .before .before .before .before .before .before .before .before .before .before .before .before .before .before .before .before .before .before .before .before .fill2 .kept .0
 
--- src/play.rt:263:1
 same-length-4 : tie.Need-same-length-4
 same-length-4 c = search needs
 
--- src/play.rt:263:1
 returns : tie.Need-returns
 returns c = search needs
 

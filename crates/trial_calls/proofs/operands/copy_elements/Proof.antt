@@ -5,9 +5,6 @@ use lib.ListN.{length, length-set}
 use borrow.Author.Needs.{needs}
 use Rattle.trial_calls.proofs.operands.copy_elements.Statement.{statement}
 use Rattle.trial_calls.proofs.operands.copy_elements.Tie as tie
-use Rattle.trial_calls.proofs.operands.copy_elements.Reads as reads
-use Rattle.trial_calls.proofs.operands.copy_elements.Lts as lts
-use Rattle.trial_calls.proofs.operands.narrow.Reads as narrow-reads
 
 abbrev Inv-loop : tie.InvT-loop
 Inv-loop words values₀ i₀ i-end values i = (i ≤ length words) × (i-end ≡ length words) × (length values ≡ length values₀)
@@ -15,55 +12,42 @@ Inv-loop words values₀ i₀ i-end values i = (i ≤ length words) × (i-end �
 abbrev μ-loop : tie.MeasureT-loop
 μ-loop words values₀ i₀ i-end values i = length words - i
 
--- src/operands.rt:215:5
 loop-holds : tie.Need-loop-holds Inv-loop μ-loop
 loop-holds c = search needs
 
--- src/operands.rt:217:13
 same-length : tie.Need-same-length Inv-loop μ-loop
 same-length c = search needs
 
--- src/operands.rt:217:13
 returns : tie.Need-returns Inv-loop μ-loop
 returns c = search needs
 
--- src/operands.rt:219:28
 mul-narrow : tie.Need-mul-narrow Inv-loop μ-loop
 mul-narrow c = search needs
 
--- src/operands.rt:219:28
 shared-slice-read-narrow : tie.Need-shared-slice-read-narrow Inv-loop μ-loop
 shared-slice-read-narrow c = search needs
 
--- src/operands.rt:219:21
 narrow-requires : tie.Need-narrow-requires Inv-loop μ-loop
 narrow-requires c κs = search needs
 
--- src/operands.rt:219:9
 mul-values : tie.Need-mul-values Inv-loop μ-loop
 mul-values c = search needs
 
--- src/operands.rt:219:9
 slice-write-values : tie.Need-slice-write-values Inv-loop μ-loop
 slice-write-values c = search needs
 
--- src/operands.rt:215:9
 add-i : tie.Need-add-i Inv-loop μ-loop
 add-i c = search needs
 
--- src/operands.rt:215:5
 loop-less : tie.Need-loop-less Inv-loop μ-loop
 loop-less c = search needs
 
--- src/operands.rt:215:5
 loop-again : tie.Need-loop-again Inv-loop μ-loop
 loop-again c = search needs
 
--- src/operands.rt:214:1
 same-length-2 : tie.Need-same-length-2 Inv-loop μ-loop
 same-length-2 c = search needs
 
--- src/operands.rt:214:1
 returns-2 : tie.Need-returns-2 Inv-loop μ-loop
 returns-2 c = search needs
 

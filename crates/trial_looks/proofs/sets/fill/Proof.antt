@@ -3,11 +3,8 @@ use mathlib.Core.Path.{_≡_}
 use native.Mathlib.Omega.{arith}
 use lib.ListN.{length, length-set}
 use borrow.Author.Needs.{needs}
-use Rattle.trial_calls.proofs.pairs.fill.Statement.{statement}
-use Rattle.trial_calls.proofs.pairs.fill.Tie as tie
-use Rattle.trial_calls.proofs.pairs.fill.Reads as reads
-use Rattle.trial_calls.proofs.pairs.fill.Lts as lts
-use Rattle.std.proofs.num.wrapping_add_u32.Reads as wrapping-add-u32-reads
+use Rattle.trial_looks.proofs.sets.fill.Statement.{statement}
+use Rattle.trial_looks.proofs.sets.fill.Tie as tie
 
 abbrev Inv-loop : tie.InvT-loop
 Inv-loop slots₀ first value₀ i₀ i-end slots value i = (i ≤ length slots₀) × (i-end ≡ length slots₀) × (length slots ≡ length slots₀)
@@ -15,39 +12,30 @@ Inv-loop slots₀ first value₀ i₀ i-end slots value i = (i ≤ length slots�
 abbrev μ-loop : tie.MeasureT-loop
 μ-loop slots₀ first value₀ i₀ i-end slots value i = length slots₀ - i
 
--- src/pairs.rt:29:5
 loop-holds : tie.Need-loop-holds Inv-loop μ-loop
 loop-holds c = search needs
 
--- src/pairs.rt:30:9
 mul-slots : tie.Need-mul-slots Inv-loop μ-loop
 mul-slots c = search needs
 
--- src/pairs.rt:30:9
 slice-write-slots : tie.Need-slice-write-slots Inv-loop μ-loop
 slice-write-slots c = search needs
 
--- src/pairs.rt:31:9
 wrapping-add-u32-requires : tie.Need-wrapping-add-u32-requires Inv-loop μ-loop
 wrapping-add-u32-requires c κs = search needs
 
--- src/pairs.rt:29:9
 add-i : tie.Need-add-i Inv-loop μ-loop
 add-i c = search needs
 
--- src/pairs.rt:29:5
 loop-less : tie.Need-loop-less Inv-loop μ-loop
 loop-less c = search needs
 
--- src/pairs.rt:29:5
 loop-again : tie.Need-loop-again Inv-loop μ-loop
 loop-again c = search needs
 
--- src/pairs.rt:27:1
 same-length : tie.Need-same-length Inv-loop μ-loop
 same-length c = search needs
 
--- src/pairs.rt:27:1
 returns : tie.Need-returns Inv-loop μ-loop
 returns c = search needs
 

@@ -1,19 +1,20 @@
 // A line of output: what the call gave, and the two queues.
-use trial_calls::Draining;
-use trial_calls::Side;
-use trial_calls::TARGET;
+use trial_calls::Kept;
+use trial_calls::Queues;
 use trial_calls::Walking;
 use trial_calls::said;
 use trial_calls::said::Said;
 use trial_calls::said::letter;
-use trial_calls::word;
-use trial_calls::written;
+use trial_looks::written;
+use trial_text::TARGET;
 use trial_text::put_byte;
 use trial_text::put_number;
 use trial_text::put_slots;
 use trial_text::put_spaced;
 use trial_text::put_text;
 use trial_text::put_values;
+use trial_text::word;
+use turns::Holding;
 use vec_deque::Deque;
 use vec_deque::Drain;
 
@@ -118,7 +119,7 @@ fn put_image_of(slots: &[u32], queue: Deque, len: usize, out: &mut [u8], at: usi
 }
 
 // Makes a call that answers with a list, and puts what it gave.
-pub fn put_list(
+fn put_list_of(
     number: usize,
     slots: &[u32],
     queue: Deque,
@@ -130,6 +131,21 @@ pub fn put_list(
     match number {
         42 => put_image_of(slots, queue, first, out, at),
         _ => put_run(number, slots, queue, first, word(words, 1), out, at),
+    }
+}
+
+// Makes a call that answers with a list, and puts what it gave; while a drain is open it is passed over.
+pub fn put_list(
+    number: usize,
+    slots: &[u32],
+    holding: Holding,
+    words: &[usize],
+    out: &mut [u8],
+    at: usize,
+) -> usize {
+    match holding {
+        Holding::Shut(queue) => put_list_of(number, slots, queue, words, out, at),
+        Holding::Open(_) => put_said(out, at, said::say_done(0)),
     }
 }
 
@@ -150,10 +166,10 @@ fn put_drain(out: &mut [u8], at: usize, drain: Drain) -> usize {
 }
 
 // Puts the record, or the open drain in its place.
-fn put_state(out: &mut [u8], at: usize, queue: Deque, drain: Draining) -> usize {
-    match drain {
-        Draining::Open(open) => put_drain(out, at, open),
-        Draining::Shut => put_record(out, at, queue),
+fn put_state(out: &mut [u8], at: usize, holding: Holding) -> usize {
+    match holding {
+        Holding::Open(open) => put_drain(out, at, open),
+        Holding::Shut(queue) => put_record(out, at, queue),
     }
 }
 
@@ -192,26 +208,27 @@ fn put_content(out: &mut [u8], at: usize, slots: &[u32]) -> usize {
 }
 
 // Puts a queue behind a bar.
-fn put_side(out: &mut [u8], at: usize, slots: &[u32], side: Side) -> usize {
-    let drain = side.drain;
-    let walk = side.walk;
+fn put_queue(out: &mut [u8], at: usize, slots: &[u32], kept: Kept) -> usize {
+    let holding = kept.holding;
+    let walk = kept.walk;
     let bar = put_word(out, at, said::BAR);
-    let state = put_state(out, bar, side.queue, drain);
+    let state = put_state(out, bar, holding);
     let walked = put_walk(out, state, walk);
     put_content(out, walked, slots)
 }
 
 // Puts the two queues, and ends the line.
-pub fn put_sides(
+pub fn put_queues(
     out: &mut [u8],
     at: usize,
     a_slots: &[u32],
-    a: Side,
     b_slots: &[u32],
-    b: Side,
+    queues: Queues,
 ) -> usize {
-    let first = put_side(out, at, a_slots, a);
-    let second = put_side(out, first, b_slots, b);
+    let a = queues.a;
+    let b = queues.b;
+    let first = put_queue(out, at, a_slots, a);
+    let second = put_queue(out, first, b_slots, b);
     put_byte(out, second, b'\n')
 }
 
