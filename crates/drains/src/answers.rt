@@ -5,7 +5,6 @@ use queue::Refusal;
 
 // The record of an open drain. In front of the drained range stand `start` elements, behind it `tail_len`; of its `drain_len` elements the
 // `remaining` from position `idx` on are not handed over yet.
-#[repr(C)]
 pub struct Drain {
     pub head: WrappedIndex,
     pub start: usize,

@@ -12,7 +12,6 @@ ghost use Rattle.queue.specs.Answers.{recOf, numberIn};
 ghost use Rattle.walks.specs.Answers.{walkOf, ofBegun, ofStepped, walkIn};
 
 // What is still to be walked: the positions from `low` to before `high`.
-#[repr(C)]
 pub struct Walk {
     pub queue: Deque,
     pub low: usize,
