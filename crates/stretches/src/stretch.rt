@@ -53,6 +53,11 @@ pub fn copy(slots: &mut [u32], src: WrappedIndex, dst: WrappedIndex, len: usize)
 {
     let s = src.as_index();
     let d = dst.as_index();
+    // no more than the local array holds: one copy, whichever way
+    if len <= HELD {
+        copy_held(slots, s, d, len);
+        return;
+    }
     if d < s {
         copy_low_first(slots, s, d, len);
     } else {
