@@ -7,6 +7,8 @@ use std::ops::{Bound, RangeBounds};
 pub struct Queue<'a> {
     pub(crate) slots: &'a mut [u32],
     pub(crate) record: Record,
+    /// The record of its drain, while one is open.
+    pub(crate) drain: raw::Drain,
     pub(crate) moved: usize,
 }
 
@@ -32,6 +34,7 @@ impl<'a> Queue<'a> {
         Queue {
             slots,
             record,
+            drain: raw::Drain::default(),
             moved: 0,
         }
     }
