@@ -7,7 +7,7 @@ const ROUND: Duration = Duration::from_millis(2);
 const ROUNDS: u32 = 15;
 
 /// How many turns of the work make a round.
-pub fn turns_of_a_round(mut work: impl FnMut(u32)) -> u32 {
+fn turns_of_a_round(mut work: impl FnMut(u32)) -> u32 {
     let mut turns = 1;
     loop {
         let start = Instant::now();
