@@ -197,12 +197,14 @@ static void test_images(void)
 static void test_copy(void)
 {
     uint32_t s[6] = {1, 2, 3, 4, 5, 6};
-    static const uint32_t up[6] = {1, 2, 1, 2, 3, 4}, down[6] = {2, 1, 2, 3, 3, 4};
-    EXPECT(scorebucket_copy(s, 6, 0, 2, 4) == 0 && memcmp(s, up, sizeof s) == 0);
-    EXPECT(scorebucket_copy(s, 6, 1, 0, 4) == 0 && memcmp(s, down, sizeof s) == 0);
-    EXPECT(scorebucket_copy(s, 6, 3, 0, 4) == SCOREBUCKET_POSITION && scorebucket_copy(s, 6, 0, 3, 4) == SCOREBUCKET_POSITION);
-    EXPECT(scorebucket_copy(s, 6, 6, 0, 0) == SCOREBUCKET_POSITION && scorebucket_copy(s, 6, 0, 1, SIZE_MAX) == SCOREBUCKET_POSITION);
-    EXPECT(memcmp(s, down, sizeof s) == 0);
+    static const uint32_t up[6] = {1, 2, 1, 2, 3, 4}, down[6] = {2, 1, 2, 3, 3, 4}, twice[6] = {2, 2, 2, 1, 2, 3};
+    EXPECT(scorebucket_copy(s, 6, 0, 2, 4, 1) == 0 && memcmp(s, up, sizeof s) == 0);
+    EXPECT(scorebucket_copy(s, 6, 1, 0, 4, 1) == 0 && memcmp(s, down, sizeof s) == 0);
+    EXPECT(scorebucket_copy(s, 6, 0, 1, 5, 2) == 0 && memcmp(s, twice, sizeof s) == 0);
+    EXPECT(scorebucket_copy(s, 6, 0, 1, 5, 0) == 0);
+    EXPECT(scorebucket_copy(s, 6, 3, 0, 4, 1) == SCOREBUCKET_POSITION && scorebucket_copy(s, 6, 0, 3, 4, 1) == SCOREBUCKET_POSITION);
+    EXPECT(scorebucket_copy(s, 6, 6, 0, 0, 1) == SCOREBUCKET_POSITION && scorebucket_copy(s, 6, 0, 1, SIZE_MAX, 1) == SCOREBUCKET_POSITION);
+    EXPECT(memcmp(s, twice, sizeof s) == 0);
 }
 
 /* A record that is not good, and too many slots: refused, and nothing is written. */

@@ -216,8 +216,8 @@ struct scorebucket_reply scorebucket_read_image(uint32_t *slots, size_t cap, str
 
 /* ---- for benchmarks */
 
-/* Copies the n slots from src on to dst, which may overlap, and does nothing else. Gives 0, or 3 where one of the stretches is out of the slots. */
-size_t scorebucket_copy(uint32_t *slots, size_t cap, size_t src, size_t dst, size_t n);
+/* Copies the n slots from src on to dst, which may overlap, so many times over, and does nothing else. Gives 0, or refusal 1, or 3 where one of the stretches is out of the slots. */
+size_t scorebucket_copy(uint32_t *slots, size_t cap, size_t src, size_t dst, size_t n, size_t times);
 
 #ifdef __cplusplus
 }

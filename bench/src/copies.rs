@@ -3,13 +3,14 @@ use crate::timing;
 use std::hint::black_box;
 
 unsafe extern "C" {
-    fn scorebucket_copy(slots: *mut u32, slots_len: usize, src: usize, dst: usize, n: usize) -> usize;
+    fn scorebucket_copy(slots: *mut u32, slots_len: usize, src: usize, dst: usize, n: usize, times: usize) -> usize;
 }
 
-/// The proved copy of `n` slots from `src` to `dst`; whether it was accepted.
-fn proved_copy(slots: &mut [u32], src: usize, dst: usize, n: usize) -> bool {
+/// The proved copy of `n` slots from `src` to `dst`, so many times over.
+fn proved_copy(slots: &mut [u32], src: usize, dst: usize, n: usize, times: usize) {
     // SAFETY: the pointer and the length are a slice's.
-    unsafe { scorebucket_copy(slots.as_mut_ptr(), slots.len(), src, dst, n) == 0 }
+    let refused = unsafe { scorebucket_copy(slots.as_mut_ptr(), slots.len(), src, dst, n, times) };
+    assert_eq!(refused, 0);
 }
 
 const LENGTHS: [usize; 5] = [16, 100, 1_000, 4_096, 12_000];
@@ -30,12 +31,13 @@ fn called_copy(slots: &mut [u32], src: usize, dst: usize, n: usize) {
     slots.copy_within(src..src + n, dst);
 }
 
-/// The times of a copy: the proved one's, `ptr::copy`'s, and std's behind a function of its own.
+/// The times of a copy: the proved one's and `ptr::copy`'s, each in a loop of its own; then one copy a call, the proved one's and std's.
 #[derive(Clone, Copy)]
 struct Times {
     proved: f64,
     pointer: f64,
-    called: f64,
+    proved_call: f64,
+    std_call: f64,
     src: usize,
     dst: usize,
 }
@@ -48,12 +50,9 @@ impl Times {
 
 fn times_of(slots: &mut [u32], rust: &mut [u32], src: usize, dst: usize, n: usize) -> Times {
     let other = &mut rust.to_vec()[..];
+    let called = &mut rust.to_vec()[..];
     let t = timing::times(&mut [
-        &mut |turns| {
-            for _ in 0..turns {
-                proved_copy(black_box(&mut *slots), src, dst, n);
-            }
-        },
+        &mut |turns| proved_copy(black_box(&mut *slots), src, dst, n, turns as usize),
         &mut |turns| {
             for _ in 0..turns {
                 let s = black_box(&mut *rust);
@@ -61,13 +60,10 @@ fn times_of(slots: &mut [u32], rust: &mut [u32], src: usize, dst: usize, n: usiz
                 unsafe { std::ptr::copy(s.as_ptr().add(src), s.as_mut_ptr().add(dst), n) }
             }
         },
-        &mut |turns| {
-            for _ in 0..turns {
-                called_copy(black_box(&mut *other), src, dst, n);
-            }
-        },
+        &mut |turns| (0..turns).for_each(|_| proved_copy(black_box(&mut *other), src, dst, n, 1)),
+        &mut |turns| (0..turns).for_each(|_| called_copy(black_box(&mut *called), src, dst, n)),
     ]);
-    Times { proved: t[0], pointer: t[1], called: t[2], src, dst }
+    Times { proved: t[0], pointer: t[1], proved_call: t[2], std_call: t[3], src, dst }
 }
 
 /// The pair of places with the largest ratio. What is above the aim is timed twice again, and the least counts: another program's turn is no copy's.
@@ -76,8 +72,8 @@ fn worst(n: usize, pairs: impl Iterator<Item = (usize, usize)>) -> Times {
     let mut rust = slots.clone();
     let mut worst: Option<Times> = None;
     for (src, dst) in pairs {
-        assert!(proved_copy(&mut slots, src, dst, n));
-        rust.copy_within(src..src + n, dst);
+        proved_copy(&mut slots, src, dst, n, 2);
+        (0..2).for_each(|_| rust.copy_within(src..src + n, dst));
         assert!(slots == rust, "copy {src} {dst} {n}: the two sides differ");
         let mut times = times_of(&mut slots, &mut rust, src, dst, n);
         for _ in 0..2 {
@@ -97,24 +93,25 @@ fn worst(n: usize, pairs: impl Iterator<Item = (usize, usize)>) -> Times {
 
 /// Prints the worst ratio of every overlap and alignment.
 pub fn print() {
-    println!("A straight copy beside `ptr::copy`: the worst of 8 alignments, 6 distances and both directions. Behind it the same copy by `copy_within` in a function that is not inlined.");
+    println!("A straight copy beside `ptr::copy`, each in a loop of its own: the worst of 8 alignments, 6 distances and both directions. Behind it the same copy once a call: the exported one, and `copy_within` in a function that is not inlined.");
     println!();
-    println!("| n | proved ns | ptr::copy ns | ratio | copy_within, called, ns | ratio | from | to |");
-    println!("|---:|---:|---:|---:|---:|---:|---:|---:|");
+    println!("| n | proved ns | ptr::copy ns | ratio | from | to | proved, called, ns | copy_within, called, ns | ratio |");
+    println!("|---:|---:|---:|---:|---:|---:|---:|---:|---:|");
     for n in LENGTHS {
         let pairs = ALIGNMENTS.flat_map(|a| DISTANCES.into_iter().flat_map(move |d| [(a, a + d), (a + d, a)]));
         let w = worst(n, pairs.filter(|(src, dst)| src + n <= 16_000 && dst + n <= 16_000));
         println!(
-            "| {} | {:.1} | {:.1} | {:.2}{} | {:.1} | {:.2} | {} | {} |",
+            "| {} | {:.1} | {:.1} | {:.2}{} | {} | {} | {:.1} | {:.1} | {:.2} |",
             n,
             w.proved,
             w.pointer,
             w.ratio(),
             if n >= AIMED && w.ratio() > AIM { " !" } else { "" },
-            w.called,
-            w.proved / w.called,
             w.src,
-            w.dst
+            w.dst,
+            w.proved_call,
+            w.std_call,
+            w.proved_call / w.std_call
         );
     }
 }

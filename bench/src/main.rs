@@ -2,6 +2,7 @@
 //! Every figure is the fastest of several rounds; the rounds of the two sides alternate.
 #![feature(deque_extend_front, vec_deque_truncate_front)]
 mod copies;
+mod places;
 mod proved;
 mod queue;
 mod refusals;

@@ -7,37 +7,10 @@ pub struct Proved(scorebucket::Queue<'static>);
 /// A call was refused that the benchmark means to be accepted.
 const REFUSED: &str = "refused";
 
-/// A call that is refused: its name, the queue that it is made on, and the call.
-pub type RefusedCall = (&'static str, fn(usize) -> Proved, fn(&mut Proved));
-
-impl Proved {
-    fn over(cap: usize, value: u32, head: usize, len: usize) -> Proved {
-        let slots = vec![value; cap].leak();
-        Proved(scorebucket::Queue::with_record(slots, Record { head, len }))
-    }
-
-    /// A full queue, wrapped.
-    fn full(cap: usize) -> Proved {
-        Proved::over(cap, 7, cap / 2, cap)
-    }
-
-    /// A queue with a record that is not good.
-    fn bad(cap: usize) -> Proved {
-        Proved::over(cap, 7, cap, cap)
-    }
-
-    pub const REFUSED_CALLS: [RefusedCall; 5] = [
-        ("push_back, full", Proved::full, |p| assert!(p.0.push_back(1).is_err())),
-        ("insert, full", Proved::full, |p| assert!(p.0.insert(p.0.len() / 2, 1).is_err())),
-        ("extend by 100, full", Proved::full, |p| assert!(p.0.extend(&[1; 100]).is_err())),
-        ("drain, past the end", Proved::full, |p| assert!(p.0.drain(1..p.0.len() + 1).is_err())),
-        ("retain, a bad record", Proved::bad, |p| assert!(p.0.retain(Test::Below(8)).is_err())),
-    ];
-}
-
 impl Queue for Proved {
     fn starting_at(cap: usize, head: usize) -> Self {
-        Proved::over(cap, 0, head, 0)
+        let slots = vec![0; cap].leak();
+        Proved(scorebucket::Queue::with_record(slots, Record { head, len: 0 }))
     }
     fn push_back(&mut self, v: u32) {
         self.0.push_back(v).expect(REFUSED)

@@ -1,10 +1,10 @@
 //! How long a piece of work takes.
 use std::time::{Duration, Instant};
 
-/// A round takes at least so long.
-const ROUND: Duration = Duration::from_millis(2);
+/// A round takes at least so long: short, so that many a round is over before another program gets its turn.
+const ROUND: Duration = Duration::from_micros(200);
 /// So many rounds are made of each side, in turns; the fastest counts.
-const ROUNDS: u32 = 15;
+const ROUNDS: u32 = 250;
 
 /// How many turns of the work make a round.
 fn turns_of_a_round(mut work: impl FnMut(u32)) -> u32 {

@@ -23,18 +23,18 @@ pub fn pop_front(slots: &[u32], q: Deque) -> Handed
         };
     }
     let len = q.len;
-    if len == 0 {
-        return Handed::Nothing { queue: q, moved: 0 };
+    if len > 0 {
+        let head = q.head;
+        let h = head.as_index();
+        let number = slots[h];
+        let next = places::next(cap, head);
+        return Handed::Number {
+            number,
+            queue: queue::stepped(q, next, len - 1),
+            moved: 0,
+        };
     }
-    let head = q.head;
-    let h = head.as_index();
-    let number = slots[h];
-    let next = places::wrap_add(cap, head, 1);
-    Handed::Number {
-        number,
-        queue: queue::stepped(q, next, len - 1),
-        moved: 0,
-    }
+    Handed::Nothing { queue: q, moved: 0 }
 }
 
 // Hands the last element over.
@@ -50,18 +50,18 @@ pub fn pop_back(slots: &[u32], q: Deque) -> Handed
         };
     }
     let len = q.len;
-    if len == 0 {
-        return Handed::Nothing { queue: q, moved: 0 };
+    if len > 0 {
+        let head = q.head;
+        let last = places::wrap_add(cap, head, len - 1);
+        let l = last.as_index();
+        let number = slots[l];
+        return Handed::Number {
+            number,
+            queue: queue::stepped(q, head, len - 1),
+            moved: 0,
+        };
     }
-    let head = q.head;
-    let last = places::wrap_add(cap, head, len - 1);
-    let l = last.as_index();
-    let number = slots[l];
-    Handed::Number {
-        number,
-        queue: queue::stepped(q, head, len - 1),
-        moved: 0,
-    }
+    Handed::Nothing { queue: q, moved: 0 }
 }
 
 // The answer of a pop, if its element meets the test; else Nothing, and `q` stands as it did, since a pop only reads.

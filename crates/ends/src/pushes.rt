@@ -21,19 +21,19 @@ pub fn push_back(slots: &mut [u32], q: Deque, v: u32) -> Change
         };
     }
     let len = q.len;
-    if len == cap {
-        return Change::Refused {
-            refusal: Refusal::Room,
-            queue: q,
+    if len < cap {
+        let head = q.head;
+        let behind = places::wrap_add(cap, head, len);
+        let b = behind.as_index();
+        slots[b] = v;
+        return Change::Done {
+            queue: queue::stepped(q, head, len + 1),
             moved: 0,
         };
     }
-    let head = q.head;
-    let behind = places::wrap_add(cap, head, len);
-    let b = behind.as_index();
-    slots[b] = v;
-    Change::Done {
-        queue: queue::stepped(q, head, len + 1),
+    Change::Refused {
+        refusal: Refusal::Room,
+        queue: q,
         moved: 0,
     }
 }
@@ -50,18 +50,18 @@ pub fn push_front(slots: &mut [u32], q: Deque, v: u32) -> Change
             moved: 0,
         };
     }
-    if q.len == cap {
-        return Change::Refused {
-            refusal: Refusal::Room,
-            queue: q,
+    if q.len < cap {
+        let first = places::wrap_sub(cap, q.head, 1);
+        let f = first.as_index();
+        slots[f] = v;
+        return Change::Done {
+            queue: queue::stepped(q, first, q.len + 1),
             moved: 0,
         };
     }
-    let first = places::wrap_sub(cap, q.head, 1);
-    let f = first.as_index();
-    slots[f] = v;
-    Change::Done {
-        queue: queue::stepped(q, first, q.len + 1),
+    Change::Refused {
+        refusal: Refusal::Room,
+        queue: q,
         moved: 0,
     }
 }

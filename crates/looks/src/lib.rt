@@ -14,12 +14,12 @@ pub fn get(slots: &[u32], q: Deque, i: usize) -> Found
     if let Checked::Refused(refusal) = queue::check(cap, q) {
         return Found::Refused(refusal);
     }
-    if i >= q.len {
-        return Found::Nothing;
+    if i < q.len {
+        let at = places::wrap_add(cap, q.head, i);
+        let p = at.as_index();
+        return Found::Number(slots[p]);
     }
-    let at = places::wrap_add(cap, q.head, i);
-    let p = at.as_index();
-    Found::Number(slots[p])
+    Found::Nothing
 }
 
 // The first element.

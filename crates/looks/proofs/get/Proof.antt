@@ -1,4 +1,4 @@
--- `ends::get` meets its contract. Assumes nothing.
+-- `looks::get` meets its contract. Assumes nothing.
 use mathlib.Core.Path.{_≡_, _∙_, refl}
 use Prim.Native.Nat.{_<_}
 use native.Mathlib.Omega.{arith}
@@ -40,9 +40,6 @@ returns c = look-first _ _ _ _ (c .before .before .before .check .ensures) _ (c 
 enum-told : tie.Need-enum-told
 enum-told c = search needs
 
-returns-2 : tie.Need-returns-2
-returns-2 c = unseen-past _ _ (past (c .before .before)) _ (c .if1 .taken)
-
 wrap-add-requires : tie.Need-wrap-add-requires
 wrap-add-requires c κs = let g = ok (c .before .before) .good in omega arith
 
@@ -55,8 +52,11 @@ mul-t10 c = let k = slot c in omega arith
 shared-slice-read-t12 : tie.Need-shared-slice-read-t12
 shared-slice-read-t12 c = slot (c .before)
 
+returns-2 : tie.Need-returns-2
+returns-2 c = seen-at _ _ (past (c .before .before .before .before .before)) _ _ _ (c .before .before .before .if1 .taken) (c .before .as-index .ensures ∙ c .before .before .wrap-add .ensures) refl
+
 returns-3 : tie.Need-returns-3
-returns-3 c = seen-at _ _ (past (c .before .before .before .before .before)) _ _ _ (c .before .before .before .if1 .left) (c .before .as-index .ensures ∙ c .before .before .wrap-add .ensures) refl
+returns-3 c = unseen-past _ _ (past (c .before .before)) _ (c .if1 .left)
 
 pub get-spec : {M : Type 1} → statement M
 get-spec =
@@ -66,9 +66,9 @@ get-spec =
     enum-known-refusal
     returns
     enum-told
-    returns-2
     wrap-add-requires
     as-index-requires
     mul-t10
     shared-slice-read-t12
+    returns-2
     returns-3)

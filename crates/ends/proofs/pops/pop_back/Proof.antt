@@ -39,9 +39,6 @@ returns c = told-first _ _ _ (c .before .before .before .check .ensures) _ _ (c 
 enum-told : tie.Need-enum-told
 enum-told c = search needs
 
-returns-2 : tie.Need-returns-2
-returns-2 c = back-none _ _ (past (c .before)) (c .if1 .taken)
-
 sub-wrap-add : tie.Need-sub-wrap-add
 sub-wrap-add c = search needs
 
@@ -63,8 +60,11 @@ sub-stepped c = search needs
 stepped-requires : tie.Need-stepped-requires
 stepped-requires c κs = search needs
 
+returns-2 : tie.Need-returns-2
+returns-2 c = back-popped _ _ (past (c .before .before .before .before .before .before)) _ _ _ (λ none. omega (arith, c .before .before .before .before .before .if1 .taken, none)) (c .before .before .as-index .ensures ∙ c .before .before .before .wrap-add .ensures) refl (c .stepped .ensures)
+
 returns-3 : tie.Need-returns-3
-returns-3 c = back-popped _ _ (past (c .before .before .before .before .before .before)) _ _ _ (c .before .before .before .before .before .if1 .left) (c .before .before .as-index .ensures ∙ c .before .before .before .wrap-add .ensures) refl (c .stepped .ensures)
+returns-3 c = back-none _ _ (past (c .before)) (omega arith)
 
 pub pop-back-spec : {M : Type 1} → statement M
 pop-back-spec =
@@ -74,7 +74,6 @@ pop-back-spec =
     enum-known-refusal
     returns
     enum-told
-    returns-2
     sub-wrap-add
     wrap-add-requires
     as-index-requires
@@ -82,4 +81,5 @@ pop-back-spec =
     shared-slice-read-number
     sub-stepped
     stepped-requires
+    returns-2
     returns-3)

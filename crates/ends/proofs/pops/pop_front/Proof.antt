@@ -35,9 +35,6 @@ returns c = told-first _ _ _ (c .before .before .before .check .ensures) _ _ (c 
 enum-told : tie.Need-enum-told
 enum-told c = search needs
 
-returns-2 : tie.Need-returns-2
-returns-2 c = front-none _ _ (past (c .before)) (c .if1 .taken)
-
 as-index-requires : tie.Need-as-index-requires
 as-index-requires c κs = search needs
 
@@ -47,8 +44,8 @@ mul-number c = let k = slot c in omega arith
 shared-slice-read-number : tie.Need-shared-slice-read-number
 shared-slice-read-number c = slot (c .before)
 
-wrap-add-requires : tie.Need-wrap-add-requires
-wrap-add-requires c κs = let g = ok (c .before .before .before .before) .good in omega arith
+next-requires : tie.Need-next-requires
+next-requires c κs = let g = ok (c .before .before .before .before) .good in omega arith
 
 sub-stepped : tie.Need-sub-stepped
 sub-stepped c = search needs
@@ -56,8 +53,11 @@ sub-stepped c = search needs
 stepped-requires : tie.Need-stepped-requires
 stepped-requires c κs = search needs
 
+returns-2 : tie.Need-returns-2
+returns-2 c = front-popped _ _ (past (c .before .before .before .before .before .before)) _ _ _ _ (λ none. omega (arith, c .before .before .before .before .before .if1 .taken, none)) (c .before .before .before .as-index .ensures) refl (c .before .next .ensures) (c .stepped .ensures)
+
 returns-3 : tie.Need-returns-3
-returns-3 c = front-popped _ _ (past (c .before .before .before .before .before .before)) _ _ _ _ (c .before .before .before .before .before .if1 .left) (c .before .before .before .as-index .ensures) refl (c .before .wrap-add .ensures) (c .stepped .ensures)
+returns-3 c = front-none _ _ (past (c .before)) (omega arith)
 
 pub pop-front-spec : {M : Type 1} → statement M
 pop-front-spec =
@@ -67,11 +67,11 @@ pop-front-spec =
     enum-known-refusal
     returns
     enum-told
-    returns-2
     as-index-requires
     mul-number
     shared-slice-read-number
-    wrap-add-requires
+    next-requires
     sub-stepped
     stepped-requires
+    returns-2
     returns-3)

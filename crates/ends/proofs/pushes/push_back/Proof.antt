@@ -39,9 +39,6 @@ returns c = told-first _ _ _ (c .before .before .before .check .ensures) _ _ (c 
 enum-told : tie.Need-enum-told
 enum-told c = search needs
 
-returns-2 : tie.Need-returns-2
-returns-2 c = back-full _ _ (past (c .before)) _ (c .if1 .taken)
-
 wrap-add-requires : tie.Need-wrap-add-requires
 wrap-add-requires c κs = let g = ok (c .before .before) .good in omega arith
 
@@ -63,8 +60,11 @@ stepped-requires c κs = search needs
 same-length : tie.Need-same-length
 same-length c = search needs
 
+returns-2 : tie.Need-returns-2
+returns-2 c = back-pushed _ _ (past (c .before .before .before .before .before)) _ _ _ (λ full. omega (arith, c .before .before .before .before .if1 .taken, full)) (c .before .as-index .ensures ∙ c .before .before .wrap-add .ensures) (c .stepped .ensures)
+
 returns-3 : tie.Need-returns-3
-returns-3 c = back-pushed _ _ (past (c .before .before .before .before .before)) _ _ _ (c .before .before .before .before .if1 .left) (c .before .as-index .ensures ∙ c .before .before .wrap-add .ensures) (c .stepped .ensures)
+returns-3 c = let g = ok (c .before) .good in back-full _ _ (past (c .before)) _ (omega arith)
 
 pub push-back-spec : {M : Type 1} → statement M
 push-back-spec =
@@ -74,7 +74,6 @@ push-back-spec =
     enum-known-refusal
     returns
     enum-told
-    returns-2
     wrap-add-requires
     as-index-requires
     mul-slots
@@ -82,4 +81,5 @@ push-back-spec =
     add-stepped
     stepped-requires
     same-length
+    returns-2
     returns-3)

@@ -39,9 +39,6 @@ returns c = told-first _ _ _ (c .before .before .before .check .ensures) _ _ (c 
 enum-told : tie.Need-enum-told
 enum-told c = search needs
 
-returns-2 : tie.Need-returns-2
-returns-2 c = front-full _ _ (past (c .before .before)) _ (c .if1 .taken)
-
 wrap-sub-requires : tie.Need-wrap-sub-requires
 wrap-sub-requires c κs = let g = ok (c .before .before) .good in omega arith
 
@@ -63,8 +60,11 @@ stepped-requires c κs = search needs
 same-length : tie.Need-same-length
 same-length c = search needs
 
+returns-2 : tie.Need-returns-2
+returns-2 c = front-pushed _ _ (past (c .before .before .before .before .before .before)) _ _ _ _ (λ full. omega (arith, c .before .before .before .before .if1 .taken, full)) (c .before .before .as-index .ensures) (c .before .before .before .wrap-sub .ensures) (c .stepped .ensures)
+
 returns-3 : tie.Need-returns-3
-returns-3 c = front-pushed _ _ (past (c .before .before .before .before .before .before)) _ _ _ _ (c .before .before .before .before .if1 .left) (c .before .before .as-index .ensures) (c .before .before .before .wrap-sub .ensures) (c .stepped .ensures)
+returns-3 c = let g = ok (c .before .before) .good in front-full _ _ (past (c .before .before)) _ (omega arith)
 
 pub push-front-spec : {M : Type 1} → statement M
 push-front-spec =
@@ -74,7 +74,6 @@ push-front-spec =
     enum-known-refusal
     returns
     enum-told
-    returns-2
     wrap-sub-requires
     as-index-requires
     mul-slots
@@ -82,4 +81,5 @@ push-front-spec =
     add-stepped
     stepped-requires
     same-length
+    returns-2
     returns-3)
