@@ -13,6 +13,7 @@ use Rattle.rules.proofs.Ring.{write-write, length-read, write-append, write-beh
 use Rattle.rules.proofs.Slots.{lay-none, listOf-take, listOf-drop, length-lay, lay-own, length-listOf}
 use Rattle.rules.proofs.Tests.{lt-or-ge}
 use Rattle.rules.specs.Places.{place}
+use Rattle.rules.specs.Refusals.{mostSlots}
 use Rattle.rules.specs.Slots.{lay, listOf, read, copied, write}
 
 -- two stretches of n elements, from the positions i and j on, overlap at one end at most
@@ -30,9 +31,9 @@ one-overlap c h i j n hh fits fits′ = ⊎-elim
     (λ (ge : j ≤ i). overlap-sym c _ _ n (overlap-on c h j i n hh ge fits)) (lt-or-ge i j)
 
 -- so that `wrap_copy` can take the one to the other
-pub can-move : (c h i j n p q : ℕ) → h < c → i + n ≤ c → j + n ≤ c → p ≡ place c h i → q ≡ place c h j → ((p < c) × (q < c) × (n ≤ c)) × OneOverlap c p q n
-can-move c h i j n p q hh fits fits′ at-p at-q =
-    rw (at-p, at-q) ((place-low c h hh i (omega arith), place-low c h hh j (omega arith), omega arith), one-overlap c h i j n hh fits fits′)
+pub can-move : (c h i j n p q : ℕ) → h < c → i + n ≤ c → j + n ≤ c → c ≤ mostSlots → p ≡ place c h i → q ≡ place c h j → ((p < c) × (q < c) × (n ≤ c) × (c ≤ mostSlots)) × OneOverlap c p q n
+can-move c h i j n p q hh fits fits′ few at-p at-q =
+    rw (at-p, at-q) ((place-low c h hh i (omega arith), place-low c h hh j (omega arith), omega arith, few), one-overlap c h i j n hh fits fits′)
 
 -- where nothing is laid, nothing is written
 pub lay-short : (b : List ℕ) (h : ℕ) (l : List ℕ) → length l ≡ 0 → lay b h l ≡ b

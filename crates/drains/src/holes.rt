@@ -5,6 +5,7 @@ ghost use Prim.Native.Nat.{_+_, _-_, _≤_, _<_};
 ghost use lib.Dec.{eqb};
 ghost use lib.ListN.{length};
 ghost use Rattle.rules.specs.Places.{place};
+ghost use Rattle.rules.specs.Refusals.{mostSlots};
 ghost use Rattle.rules.specs.Slots.{copied};
 ghost use Rattle.rules.specs.Tests.{whether};
 ghost use Rattle.drains.specs.Holes.{HoleClosed};
@@ -17,7 +18,7 @@ pub struct Joined {
 
 // Moves the last `tail` elements of a queue from position `from` to position `to`.
 pub fn move_tail(slots: &mut [u32], head: WrappedIndex, from: usize, to: usize, tail: usize)
-    requires { ⌜ (head .0 < length (now slots)) × (from + tail ≤ length (now slots)) × (to + tail ≤ length (now slots)) ⌝ }
+    requires { ⌜ (head .0 < length (now slots)) × (from + tail ≤ length (now slots)) × (to + tail ≤ length (now slots)) × (length (now slots) ≤ mostSlots) ⌝ }
     ensures { λ _. ⌜ now (slots .exit) ≡ copied (now (slots .entry)) (place (length (now (slots .entry))) (head .0) from) (place (length (now (slots .entry))) (head .0) to) tail ⌝ }
 {
     let cap = slots.len();
@@ -38,7 +39,7 @@ pub fn close_hole(
     hole: usize,
     tail: usize,
 ) -> Joined
-    requires { ⌜ (head .0 ≤ length (now slots) - 1) × (start + new + hole + tail ≤ length (now slots)) ⌝ }
+    requires { ⌜ (head .0 ≤ length (now slots) - 1) × (start + new + hole + tail ≤ length (now slots)) × (length (now slots) ≤ mostSlots) ⌝ }
     ensures { λ r. ⌜ HoleClosed (now (slots .entry)) (now (slots .exit)) (head .0) start new hole tail (r .head .0) (r .moved) ⌝ }
 {
     if hole == 0 {

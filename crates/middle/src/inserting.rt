@@ -10,12 +10,13 @@ ghost use lib.ListN.{length};
 ghost use Rattle.rules.specs.Middle.{inserted, insertAt};
 ghost use Rattle.rules.specs.Outcome.{told, doRule};
 ghost use Rattle.rules.specs.Places.{stepBack};
+ghost use Rattle.rules.specs.Refusals.{mostSlots};
 ghost use Rattle.rules.specs.Slots.{listOf, lay};
 ghost use Rattle.queue.specs.Answers.{recOf, ofChange};
 
 // Makes room at index by moving the elements from there on, and stores v.
 fn insert_later(slots: &mut [u32], head: WrappedIndex, len: usize, index: usize, v: u32)
-    requires { ⌜ (head .0 < length (now slots)) × (index ≤ len) × (len < length (now slots)) ⌝ }
+    requires { ⌜ (head .0 < length (now slots)) × (index ≤ len) × (len < length (now slots)) × (length (now slots) ≤ mostSlots) ⌝ }
     ensures { λ _. ⌜ now (slots .exit) ≡ lay (now (slots .entry)) (head .0) (inserted (listOf (now (slots .entry)) (head .0) len) index v) ⌝ }
 {
     // V in front of E: E and F move
@@ -43,7 +44,7 @@ fn insert_earlier(
     index: usize,
     v: u32,
 )
-    requires { ⌜ (head .0 < length (now slots)) × (index ≤ len) × (len < length (now slots)) ⌝ }
+    requires { ⌜ (head .0 < length (now slots)) × (index ≤ len) × (len < length (now slots)) × (length (now slots) ≤ mostSlots) ⌝ }
     requires { ⌜ back .0 ≡ stepBack (length (now slots)) (head .0) 1 ⌝ }
     ensures { λ _. ⌜ now (slots .exit) ≡ lay (now (slots .entry)) (back .0) (inserted (listOf (now (slots .entry)) (head .0) len) index v) ⌝ }
 {

@@ -9,12 +9,13 @@ ghost use lib.ListN.{length};
 ghost use Rattle.rules.specs.Middle.{without, removeAt};
 ghost use Rattle.rules.specs.Outcome.{told, doRule};
 ghost use Rattle.rules.specs.Places.{place};
+ghost use Rattle.rules.specs.Refusals.{mostSlots};
 ghost use Rattle.rules.specs.Slots.{listOf, lay};
 ghost use Rattle.queue.specs.Answers.{recOf, ofHanded};
 
 // Closes the gap at index by moving the elements behind it.
 fn remove_later(slots: &mut [u32], head: WrappedIndex, len: usize, index: usize)
-    requires { ⌜ (head .0 < length (now slots)) × (index < len) × (len ≤ length (now slots)) ⌝ }
+    requires { ⌜ (head .0 < length (now slots)) × (index < len) × (len ≤ length (now slots)) × (length (now slots) ≤ mostSlots) ⌝ }
     ensures { λ _. ⌜ now (slots .exit) ≡ lay (now (slots .entry)) (head .0) (without (listOf (now (slots .entry)) (head .0) len) index) ⌝ }
 {
     // D is handed over: E and F move
@@ -38,7 +39,7 @@ fn remove_earlier(
     len: usize,
     index: usize,
 )
-    requires { ⌜ (head .0 < length (now slots)) × (index < len) × (len ≤ length (now slots)) ⌝ }
+    requires { ⌜ (head .0 < length (now slots)) × (index < len) × (len ≤ length (now slots)) × (length (now slots) ≤ mostSlots) ⌝ }
     requires { ⌜ next .0 ≡ place (length (now slots)) (head .0) 1 ⌝ }
     ensures { λ _. ⌜ now (slots .exit) ≡ lay (now (slots .entry)) (next .0) (without (listOf (now (slots .entry)) (head .0) len) index) ⌝ }
 {

@@ -10,6 +10,7 @@ ghost use Prim.Native.Nat.{_+_, _-_, _≤_};
 ghost use lib.ListN.{length};
 ghost use Rattle.rules.specs.Outcome.{told, doRule};
 ghost use Rattle.rules.specs.Places.{place};
+ghost use Rattle.rules.specs.Refusals.{mostSlots};
 ghost use Rattle.rules.specs.Slots.{lay};
 ghost use Rattle.rules.specs.Splice.{splice};
 ghost use Rattle.queue.specs.Answers.{recOf, ofChange};
@@ -24,7 +25,7 @@ fn make_room(
     new: usize,
     tail: usize,
 ) -> Joined
-    requires { ⌜ (head .0 ≤ length (now slots) - 1) × (start + drained + tail ≤ length (now slots)) × (start + new + tail ≤ length (now slots)) ⌝ }
+    requires { ⌜ (head .0 ≤ length (now slots) - 1) × (start + drained + tail ≤ length (now slots)) × (start + new + tail ≤ length (now slots)) × (length (now slots) ≤ mostSlots) ⌝ }
     ensures { λ r. ⌜ SpliceMade (now (slots .entry)) (now (slots .exit)) (head .0) start drained new tail (r .head .0) (r .moved) ⌝ }
 {
     if new > drained {

@@ -2,4 +2,3 @@
 mod Fronts
 pub mod Parts
 pub mod Order
-mod Chunks

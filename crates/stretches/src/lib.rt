@@ -7,5 +7,5 @@ pub use leaves::copy_in_reversed;
 pub use leaves::fill;
 pub use stretch::copy;
 
-// How many elements a local array takes at once. A copy through the front of such an array is compiled to one memmove.
+// How many elements a local array takes: no less than the most slots a queue may have, so that it holds any stretch of them. A copy through the front of such an array is compiled to one memmove.
 const HELD: usize = 16384;

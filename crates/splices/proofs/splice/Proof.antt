@@ -49,7 +49,7 @@ returns-4 : tie.Need-returns-4
 returns-4 c = let g = ok (c .before .before .before) .good in splice-full _ _ _ _ _ (past (c .before .before .before)) (omega arith) (omega arith) (omega arith)
 
 make-room-requires : tie.Need-make-room-requires
-make-room-requires c κs = let g = ok (c .before .before .before .before .before) .good in omega arith
+make-room-requires c κs = let g = ok (c .before .before .before .before .before) .good in let f = ok (c .before .before .before .before .before) .few in omega arith
 
 fill-requires : tie.Need-fill-requires
 fill-requires c κs =

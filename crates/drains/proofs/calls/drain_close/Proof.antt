@@ -35,7 +35,7 @@ enum-told : tie.Need-enum-told
 enum-told c = search needs
 
 close-hole-requires : tie.Need-close-hole-requires
-close-hole-requires c κs = let g = good (c .before .before) in omega arith
+close-hole-requires c κs = let g = drain-ok _ _ (past (c .before .before)) in omega arith
 
 closed-requires : tie.Need-closed-requires
 closed-requires c κs = let g = good (c .before .before .before .before .before .before) in omega arith

@@ -20,7 +20,7 @@ wrap-add-requires c κs = search needs
 wrap-copy-requires : tie.Need-wrap-copy-requires
 wrap-copy-requires c κs =
     let a = c .before .before .before .before .before .args in
-    can-move _ (a .head .0) 0 (a .hole) _ _ _ (omega arith) (omega arith) (omega arith) (sym (place-zero _ (a .head .0) (omega arith))) (c .before .wrap-add .ensures)
+    can-move _ (a .head .0) 0 (a .hole) _ _ _ (omega arith) (omega arith) (omega arith) (omega arith) (sym (place-zero _ (a .head .0) (omega arith))) (c .before .wrap-add .ensures)
 
 same-length : tie.Need-same-length
 same-length c = search needs

@@ -37,7 +37,7 @@ returns-3 : tie.Need-returns-3
 returns-3 c = insert-full _ _ (past (c .before .before)) _ _ (c .before .if1 .left) (c .if2 .taken)
 
 insert-later-requires : tie.Need-insert-later-requires
-insert-later-requires c κs = let g = ok (c .before .before .before .before .before) .good in omega arith
+insert-later-requires c κs = let g = ok (c .before .before .before .before .before) .good in let f = ok (c .before .before .before .before .before) .few in omega arith
 
 add-stepped : tie.Need-add-stepped
 add-stepped c = let g = ok (c .before .before .before .before .before .before .before .before) .good in omega arith
@@ -55,7 +55,7 @@ wrap-sub-requires : tie.Need-wrap-sub-requires
 wrap-sub-requires c κs = let g = ok (c .before .before .before .before) .good in omega arith
 
 insert-earlier-requires : tie.Need-insert-earlier-requires
-insert-earlier-requires c κs = let g = ok (c .before .before .before .before .before .before) .good in (omega arith, c .before .wrap-sub .ensures)
+insert-earlier-requires c κs = let g = ok (c .before .before .before .before .before .before) .good in let f = ok (c .before .before .before .before .before .before) .few in (omega arith, c .before .wrap-sub .ensures)
 
 add-stepped-2 : tie.Need-add-stepped-2
 add-stepped-2 c = let g = ok (c .before .before .before .before .before .before .before .before .before) .good in omega arith

@@ -61,7 +61,7 @@ sub-later-2 : tie.Need-sub-later-2
 sub-later-2 c = search needs
 
 remove-later-requires : tie.Need-remove-later-requires
-remove-later-requires c κs = let g = ok (c .before .before .before .before .before .before .before) .good in omega arith
+remove-later-requires c κs = let g = ok (c .before .before .before .before .before .before .before) .good in let f = ok (c .before .before .before .before .before .before .before) .few in omega arith
 
 sub-stepped : tie.Need-sub-stepped
 sub-stepped c = search needs
@@ -79,7 +79,7 @@ wrap-add-requires-2 : tie.Need-wrap-add-requires-2
 wrap-add-requires-2 c κs = let g = ok (c .before .before .before .before .before .before) .good in omega arith
 
 remove-earlier-requires : tie.Need-remove-earlier-requires
-remove-earlier-requires c κs = let g = ok (c .before .before .before .before .before .before .before .before) .good in (omega arith, c .before .wrap-add2 .ensures)
+remove-earlier-requires c κs = let g = ok (c .before .before .before .before .before .before .before .before) .good in let f = ok (c .before .before .before .before .before .before .before .before) .few in (omega arith, c .before .wrap-add2 .ensures)
 
 sub-stepped-2 : tie.Need-sub-stepped-2
 sub-stepped-2 c = search needs
