@@ -3,7 +3,10 @@ use native.Mathlib.Omega.{arith}
 use borrow.Author.Needs.{needs}
 use denote.Ref.{now}
 use mathlib.Core.Path.{refl}
+use lib.ListN.{length}
+use Rattle.copies.proofs.Overlaps.{dst-wraps}
 use Rattle.stretches.proofs.Order.{way, on, over, up}
+use Rattle.copies.specs.Overlap.{OneWraps}
 use Rattle.copies.proofs.wraps.copy_dst_before_src.Statement.{statement}
 use Rattle.copies.proofs.wraps.copy_dst_before_src.Tie as tie
 
@@ -20,25 +23,26 @@ sub-dst-pre-wrap-len : tie.Need-sub-dst-pre-wrap-len
 sub-dst-pre-wrap-len c = omega arith
 
 copy-requires : tie.Need-copy-requires
+unfolding OneWraps
 copy-requires c κs = omega arith
 
-copy-requires-2 : tie.Need-copy-requires-2
-copy-requires-2 c κs = omega arith
-
 add-requires : tie.Need-add-requires
+unfolding OneWraps
 add-requires c κs = omega arith
 
 zero-requires : tie.Need-zero-requires
 zero-requires c κs = search needs
 
 sub-copy : tie.Need-sub-copy
+unfolding OneWraps
 sub-copy c = omega arith
+
+copy-requires-2 : tie.Need-copy-requires-2
+unfolding OneWraps
+copy-requires-2 c κs = omega arith
 
 copy-requires-3 : tie.Need-copy-requires-3
 copy-requires-3 c κs = omega arith
-
-copy-requires-4 : tie.Need-copy-requires-4
-copy-requires-4 c κs = omega arith
 
 zero-requires-2 : tie.Need-zero-requires-2
 zero-requires-2 c κs = search needs
@@ -49,14 +53,14 @@ add-requires-2 c κs = omega arith
 sub-copy-2 : tie.Need-sub-copy-2
 sub-copy-2 c = omega arith
 
-copy-requires-5 : tie.Need-copy-requires-5
-copy-requires-5 c κs = omega arith
+copy-requires-4 : tie.Need-copy-requires-4
+copy-requires-4 c κs = omega arith
 
 sub-delta : tie.Need-sub-delta
 sub-delta c = let w = way _ _ _ (c .before .before .before .before .before .pre .0 .0) (c .before .before .before .before .before .pre .0 .1) in omega arith
 
-copy-requires-6 : tie.Need-copy-requires-6
-copy-requires-6 c κs = let w = way _ _ _ (c .before .before .before .before .before .before .pre .0 .0) (c .before .before .before .before .before .before .pre .0 .1) in omega arith
+copy-requires-5 : tie.Need-copy-requires-5
+copy-requires-5 c κs = let w = way _ _ _ (c .before .before .before .before .before .before .pre .0 .0) (c .before .before .before .before .before .before .pre .0 .1) in omega arith
 
 zero-requires-3 : tie.Need-zero-requires-3
 zero-requires-3 c κs = search needs
@@ -64,8 +68,8 @@ zero-requires-3 c κs = search needs
 add-requires-3 : tie.Need-add-requires-3
 add-requires-3 c κs = omega arith
 
-copy-requires-7 : tie.Need-copy-requires-7
-copy-requires-7 c κs = let w = way _ _ _ (c .before .before .before .before .before .before .before .before .before .before .before .before .pre .0 .0) (c .before .before .before .before .before .before .before .before .before .before .before .before .pre .0 .1) in omega arith
+copy-requires-6 : tie.Need-copy-requires-6
+copy-requires-6 c κs = let w = way _ _ _ (c .before .before .before .before .before .before .before .before .before .before .before .before .pre .0 .0) (c .before .before .before .before .before .before .before .before .before .before .before .before .pre .0 .1) in omega arith
 
 from-arbitrary-number-requires : tie.Need-from-arbitrary-number-requires
 from-arbitrary-number-requires c κs = search needs
@@ -76,14 +80,18 @@ zero-requires-4 c κs = search needs
 sub-copy-3 : tie.Need-sub-copy-3
 sub-copy-3 c = omega arith
 
-copy-requires-8 : tie.Need-copy-requires-8
-copy-requires-8 c κs = omega arith
+copy-requires-7 : tie.Need-copy-requires-7
+copy-requires-7 c κs = omega arith
 
 same-length : tie.Need-same-length
 same-length c = search needs
 
 returns : tie.Need-returns
-returns c = c .before .before .copy .ensures
+returns c =
+    let st = c .before .before .before .before .before .before .before .before .before .before .before .before .before .before in
+    let k = dst-wraps (length (now (st .args .slots))) (st .args .src .0) (st .args .dst .0) (st .args .len) (st .pre .1 .1) (st .pre .0 .0) (st .pre .0 .1) (omega arith) in
+    let w = way _ _ _ (st .pre .0 .0) (st .pre .0 .1) in
+    up (now (st .args .slots)) _ _ _ (st .pre .0 .0) (w .0) (w .1) _ _ _ _ _ _ (st .args .len) (c .before .before .before .before .before .before .before .before .copy .ensures) (c .before .before .copy2 .ensures) (on (omega arith)) (over (omega arith)) (omega arith) (st .pre .1 .0)
 
 same-length-2 : tie.Need-same-length-2
 same-length-2 c = search needs
@@ -92,28 +100,19 @@ returns-2 : tie.Need-returns-2
 returns-2 c =
     let st = c .before .before .before .before .before .before .before .before .before .before .before .before .before .before .before in
     let w = way _ _ _ (st .pre .0 .0) (st .pre .0 .1) in
-    up (now (st .args .slots)) _ _ _ (st .pre .0 .0) (w .0) (w .1) _ _ _ _ _ _ (st .args .len) (c .before .before .before .before .before .before .before .before .copy2 .ensures) (c .before .before .copy3 .ensures) (on (omega arith)) (over (omega arith)) (omega arith) (st .pre .1)
+    up (now (st .args .slots)) _ _ _ (st .pre .0 .0) (w .0) (w .1) _ _ _ _ _ _ (st .args .len) (c .before .before .before .before .before .before .before .before .copy3 .ensures) (c .before .before .copy4 .ensures) (over (omega arith)) (on (omega arith)) (omega arith) (st .pre .1 .0)
 
 same-length-3 : tie.Need-same-length-3
 same-length-3 c = search needs
 
 returns-3 : tie.Need-returns-3
 returns-3 c =
-    let st = c .before .before .before .before .before .before .before .before .before .before .before .before .before .before .before in
-    let w = way _ _ _ (st .pre .0 .0) (st .pre .0 .1) in
-    up (now (st .args .slots)) _ _ _ (st .pre .0 .0) (w .0) (w .1) _ _ _ _ _ _ (st .args .len) (c .before .before .before .before .before .before .before .before .copy4 .ensures) (c .before .before .copy5 .ensures) (over (omega arith)) (on (omega arith)) (omega arith) (st .pre .1)
-
-same-length-4 : tie.Need-same-length-4
-same-length-4 c = search needs
-
-returns-4 : tie.Need-returns-4
-returns-4 c =
     let st = c .before .before .before .before .before .before .before .before .before .before .before .before .before .before .before .before .before .before .before .before .before in
     let b = now (st .args .slots) in
     let w = way _ _ _ (st .pre .0 .0) (st .pre .0 .1) in
     up b _ _ _ (st .pre .0 .0) (w .0) (w .1) _ _ _ _ _ _ (st .args .len)
-    (up b _ _ _ (st .pre .0 .0) (w .0) (w .1) _ _ _ _ _ _ _ (c .before .before .before .before .before .before .before .before .before .before .before .before .before .before .copy6 .ensures) (c .before .before .before .before .before .before .before .before .copy7 .ensures) (over (omega arith)) (on (omega arith)) refl (omega arith))
-    (c .before .before .copy8 .ensures) (over (omega arith)) (over (omega arith)) (omega arith) (st .pre .1)
+    (up b _ _ _ (st .pre .0 .0) (w .0) (w .1) _ _ _ _ _ _ _ (c .before .before .before .before .before .before .before .before .before .before .before .before .before .before .copy5 .ensures) (c .before .before .before .before .before .before .before .before .copy6 .ensures) (over (omega arith)) (on (omega arith)) refl (omega arith))
+    (c .before .before .copy7 .ensures) (over (omega arith)) (over (omega arith)) (omega arith) (st .pre .1 .0)
 
 pub copy-dst-before-src-spec : {M : Type 1} → statement M
 copy-dst-before-src-spec =
@@ -124,30 +123,27 @@ copy-dst-before-src-spec =
     as-index-requires-2
     sub-dst-pre-wrap-len
     copy-requires
-    copy-requires-2
     add-requires
     zero-requires
     sub-copy
+    copy-requires-2
     copy-requires-3
-    copy-requires-4
     zero-requires-2
     add-requires-2
     sub-copy-2
-    copy-requires-5
+    copy-requires-4
     sub-delta
-    copy-requires-6
+    copy-requires-5
     zero-requires-3
     add-requires-3
-    copy-requires-7
+    copy-requires-6
     from-arbitrary-number-requires
     zero-requires-4
     sub-copy-3
-    copy-requires-8
+    copy-requires-7
     same-length
     returns
     same-length-2
     returns-2
     same-length-3
-    returns-3
-    same-length-4
-    returns-4)
+    returns-3)

@@ -3,7 +3,10 @@ use mathlib.Core.Path.{refl}
 use native.Mathlib.Omega.{arith}
 use borrow.Author.Needs.{needs}
 use denote.Ref.{now}
+use lib.ListN.{length}
+use Rattle.copies.proofs.Overlaps.{dst-wraps}
 use Rattle.stretches.proofs.Order.{way, on, over, down}
+use Rattle.copies.specs.Overlap.{OneWraps}
 use Rattle.copies.proofs.wraps.copy_src_before_dst.Statement.{statement}
 use Rattle.copies.proofs.wraps.copy_src_before_dst.Tie as tie
 
@@ -19,23 +22,24 @@ as-index-requires-2 c κs = search needs
 sub-dst-pre-wrap-len : tie.Need-sub-dst-pre-wrap-len
 sub-dst-pre-wrap-len c = omega arith
 
-copy-requires : tie.Need-copy-requires
-copy-requires c κs = omega arith
-
 add-requires : tie.Need-add-requires
+unfolding OneWraps
 add-requires c κs = omega arith
 
 zero-requires : tie.Need-zero-requires
 zero-requires c κs = search needs
 
 sub-copy : tie.Need-sub-copy
+unfolding OneWraps
 sub-copy c = omega arith
 
-copy-requires-2 : tie.Need-copy-requires-2
-copy-requires-2 c κs = omega arith
+copy-requires : tie.Need-copy-requires
+unfolding OneWraps
+copy-requires c κs = omega arith
 
-copy-requires-3 : tie.Need-copy-requires-3
-copy-requires-3 c κs = omega arith
+copy-requires-2 : tie.Need-copy-requires-2
+unfolding OneWraps
+copy-requires-2 c κs = omega arith
 
 zero-requires-2 : tie.Need-zero-requires-2
 zero-requires-2 c κs = search needs
@@ -46,11 +50,11 @@ add-requires-2 c κs = omega arith
 sub-copy-2 : tie.Need-sub-copy-2
 sub-copy-2 c = omega arith
 
+copy-requires-3 : tie.Need-copy-requires-3
+copy-requires-3 c κs = omega arith
+
 copy-requires-4 : tie.Need-copy-requires-4
 copy-requires-4 c κs = omega arith
-
-copy-requires-5 : tie.Need-copy-requires-5
-copy-requires-5 c κs = omega arith
 
 sub-delta : tie.Need-sub-delta
 sub-delta c = let w = way _ _ _ (c .before .before .before .before .before .pre .0 .0) (c .before .before .before .before .before .pre .0 .1) in omega arith
@@ -64,8 +68,8 @@ from-arbitrary-number-requires c κs = search needs
 sub-copy-3 : tie.Need-sub-copy-3
 sub-copy-3 c = omega arith
 
-copy-requires-6 : tie.Need-copy-requires-6
-copy-requires-6 c κs = omega arith
+copy-requires-5 : tie.Need-copy-requires-5
+copy-requires-5 c κs = omega arith
 
 sub-from-arbitrary-number : tie.Need-sub-from-arbitrary-number
 sub-from-arbitrary-number c = omega arith
@@ -76,17 +80,21 @@ from-arbitrary-number-requires-2 c κs = search needs
 zero-requires-4 : tie.Need-zero-requires-4
 zero-requires-4 c κs = search needs
 
-copy-requires-7 : tie.Need-copy-requires-7
-copy-requires-7 c κs = let w = way _ _ _ (c .before .before .before .before .before .before .before .before .before .before .before .before .before .before .pre .0 .0) (c .before .before .before .before .before .before .before .before .before .before .before .before .before .before .pre .0 .1) in omega arith
+copy-requires-6 : tie.Need-copy-requires-6
+copy-requires-6 c κs = let w = way _ _ _ (c .before .before .before .before .before .before .before .before .before .before .before .before .before .before .pre .0 .0) (c .before .before .before .before .before .before .before .before .before .before .before .before .before .before .pre .0 .1) in omega arith
 
-copy-requires-8 : tie.Need-copy-requires-8
-copy-requires-8 c κs = let w = way _ _ _ (c .before .before .before .before .before .before .before .before .before .before .before .before .before .before .before .before .before .before .pre .0 .0) (c .before .before .before .before .before .before .before .before .before .before .before .before .before .before .before .before .before .before .pre .0 .1) in omega arith
+copy-requires-7 : tie.Need-copy-requires-7
+copy-requires-7 c κs = let w = way _ _ _ (c .before .before .before .before .before .before .before .before .before .before .before .before .before .before .before .before .before .before .pre .0 .0) (c .before .before .before .before .before .before .before .before .before .before .before .before .before .before .before .before .before .before .pre .0 .1) in omega arith
 
 same-length : tie.Need-same-length
 same-length c = search needs
 
 returns : tie.Need-returns
-returns c = c .before .before .copy .ensures
+returns c =
+    let st = c .before .before .before .before .before .before .before .before .before .before .before .before .before .before in
+    let k = dst-wraps (length (now (st .args .slots))) (st .args .src .0) (st .args .dst .0) (st .args .len) (st .pre .1 .1) (st .pre .0 .0) (st .pre .0 .1) (omega arith) in
+    let w = way _ _ _ (st .pre .0 .0) (st .pre .0 .1) in
+    down (now (st .args .slots)) _ _ _ (st .pre .0 .0) (w .0) (w .1) _ _ _ _ _ _ (st .args .len) (c .before .before .before .before .before .before .copy .ensures) (c .before .before .copy2 .ensures) (on (omega arith)) (over (omega arith)) (omega arith) (st .pre .1 .0 .1)
 
 same-length-2 : tie.Need-same-length-2
 same-length-2 c = search needs
@@ -95,28 +103,19 @@ returns-2 : tie.Need-returns-2
 returns-2 c =
     let st = c .before .before .before .before .before .before .before .before .before .before .before .before .before .before .before in
     let w = way _ _ _ (st .pre .0 .0) (st .pre .0 .1) in
-    down (now (st .args .slots)) _ _ _ (st .pre .0 .0) (w .0) (w .1) _ _ _ _ _ _ (st .args .len) (c .before .before .before .before .before .before .copy2 .ensures) (c .before .before .copy3 .ensures) (on (omega arith)) (over (omega arith)) (omega arith) (st .pre .1 .1)
+    down (now (st .args .slots)) _ _ _ (st .pre .0 .0) (w .0) (w .1) _ _ _ _ _ _ (st .args .len) (c .before .before .before .before .before .before .copy3 .ensures) (c .before .before .copy4 .ensures) (over (omega arith)) (on (omega arith)) (omega arith) (st .pre .1 .0 .1)
 
 same-length-3 : tie.Need-same-length-3
 same-length-3 c = search needs
 
 returns-3 : tie.Need-returns-3
 returns-3 c =
-    let st = c .before .before .before .before .before .before .before .before .before .before .before .before .before .before .before in
-    let w = way _ _ _ (st .pre .0 .0) (st .pre .0 .1) in
-    down (now (st .args .slots)) _ _ _ (st .pre .0 .0) (w .0) (w .1) _ _ _ _ _ _ (st .args .len) (c .before .before .before .before .before .before .copy4 .ensures) (c .before .before .copy5 .ensures) (over (omega arith)) (on (omega arith)) (omega arith) (st .pre .1 .1)
-
-same-length-4 : tie.Need-same-length-4
-same-length-4 c = search needs
-
-returns-4 : tie.Need-returns-4
-returns-4 c =
     let st = c .before .before .before .before .before .before .before .before .before .before .before .before .before .before .before .before .before .before .before .before .before in
     let b = now (st .args .slots) in
     let w = way _ _ _ (st .pre .0 .0) (st .pre .0 .1) in
     down b _ _ _ (st .pre .0 .0) (w .0) (w .1) _ _ _ _ _ _ (st .args .len)
-    (down b _ _ _ (omega arith) (w .0) (over (omega arith)) _ _ _ _ _ _ _ (c .before .before .before .before .before .before .before .before .before .before .before .before .copy6 .ensures) (c .before .before .before .before .before .before .copy7 .ensures) (over (omega arith)) (on (omega arith)) refl (omega arith))
-    (c .before .before .copy8 .ensures) (on (omega arith)) (over (omega arith)) (omega arith) (st .pre .1 .1)
+    (down b _ _ _ (omega arith) (w .0) (over (omega arith)) _ _ _ _ _ _ _ (c .before .before .before .before .before .before .before .before .before .before .before .before .copy5 .ensures) (c .before .before .before .before .before .before .copy6 .ensures) (over (omega arith)) (on (omega arith)) refl (omega arith))
+    (c .before .before .copy7 .ensures) (on (omega arith)) (over (omega arith)) (omega arith) (st .pre .1 .0 .1)
 
 pub copy-src-before-dst-spec : {M : Type 1} → statement M
 copy-src-before-dst-spec =
@@ -126,32 +125,29 @@ copy-src-before-dst-spec =
     sub-src-pre-wrap-len
     as-index-requires-2
     sub-dst-pre-wrap-len
-    copy-requires
     add-requires
     zero-requires
     sub-copy
+    copy-requires
     copy-requires-2
-    copy-requires-3
     zero-requires-2
     add-requires-2
     sub-copy-2
+    copy-requires-3
     copy-requires-4
-    copy-requires-5
     sub-delta
     zero-requires-3
     from-arbitrary-number-requires
     sub-copy-3
-    copy-requires-6
+    copy-requires-5
     sub-from-arbitrary-number
     from-arbitrary-number-requires-2
     zero-requires-4
+    copy-requires-6
     copy-requires-7
-    copy-requires-8
     same-length
     returns
     same-length-2
     returns-2
     same-length-3
-    returns-3
-    same-length-4
-    returns-4)
+    returns-3)

@@ -1,83 +1,63 @@
 -- `copies::wraps::wrap_copy` meets its contract. Assumes nothing.
-use mathlib.Core.Path.{_≡_, sym, ap, _∙_}
-use Prim.Native.Nat.{ℕ}
 use native.Mathlib.Omega.{arith}
-use lib.ListN.{length}
-use denote.Ref.{now}
-use Rattle.copies.proofs.Overlaps.{one-overlap}
-use Rattle.rules.proofs.Ring.{copy-none}
-use Rattle.rules.proofs.Slots.{lay-own}
-use Rattle.rules.specs.Places.{stepBack}
-use Rattle.rules.specs.Slots.{copied}
 use borrow.Author.Needs.{needs}
+use Rattle.copies.proofs.Overlaps.{src-past, dst-past}
 use Rattle.copies.proofs.wraps.wrap_copy.Statement.{statement}
 use Rattle.copies.proofs.wraps.wrap_copy.Tie as tie
 
 as-index-requires : tie.Need-as-index-requires
 as-index-requires c κs = search needs
 
+sub-if1 : tie.Need-sub-if1
+sub-if1 c = search needs
+
 as-index-requires-2 : tie.Need-as-index-requires-2
 as-index-requires-2 c κs = search needs
 
-returns : tie.Need-returns
-returns c =
-    let a = c .before .before .before .before .args in
-    let same : a .src .0 ≡ a .dst .0 = omega arith in
-    sym (lay-own (now (a .slots)) (a .src .0) (a .len)) ∙ ap (λ (d : ℕ). copied (now (a .slots)) (a .src .0) d (a .len)) same
+sub-if2 : tie.Need-sub-if2
+sub-if2 c = search needs
 
-returns-2 : tie.Need-returns-2
-returns-2 c =
-    let a = c .before .before .before .before .before .args in
-    sym (copy-none _ (now (a .slots)) (a .src .0) (a .dst .0)) ∙ ap (copied (now (a .slots)) (a .src .0) (a .dst .0)) (sym (c .if2 .taken))
+copy-requires : tie.Need-copy-requires
+copy-requires c κs = omega arith
 
-as-index-requires-3 : tie.Need-as-index-requires-3
-as-index-requires-3 c κs = search needs
+wrap-copy-apart-requires : tie.Need-wrap-copy-apart-requires
+wrap-copy-apart-requires c κs = let st = c .before .before .before .before .before .before in (st .pre .0, (st .pre .1, dst-past _ _ _ _ (omega arith)))
 
-wrap-sub-requires : tie.Need-wrap-sub-requires
-wrap-sub-requires c κs = search needs
-
-as-index-requires-4 : tie.Need-as-index-requires-4
-as-index-requires-4 c κs = search needs
-
--- how far after src the code has found dst
-far : (c : tie.After-as-index4) → c .as-index4 .result ≡ stepBack (length (now (c .before .before .before .before .before .before .before .before .args .slots))) (c .before .before .before .before .before .before .before .before .args .dst .0) (c .before .before .before .before .before .before .before .before .args .src .0)
-far c = c .as-index4 .ensures ∙ c .before .wrap-sub .ensures ∙ ap (stepBack _ (c .before .before .before .before .before .before .before .before .args .dst .0)) (c .before .before .as-index3 .ensures)
-
-copy-src-before-dst-requires : tie.Need-copy-src-before-dst-requires
-copy-src-before-dst-requires c κs =
-    let st = c .before .before .before .before .before .before .before .before .before .before in
-    let e = far (c .before .before) in
-    (st .pre .0, one-overlap _ _ _ (st .args .len) (st .pre .0 .0) (st .pre .0 .1) (st .pre .1) (λ same. omega arith) (omega arith))
-
-copy-dst-before-src-requires : tie.Need-copy-dst-before-src-requires
-copy-dst-before-src-requires c κs = let e = far (c .before .before) in (c .before .before .before .before .before .before .before .before .before .before .pre .0, omega arith)
+wrap-copy-apart-requires-2 : tie.Need-wrap-copy-apart-requires-2
+wrap-copy-apart-requires-2 c κs = let st = c .before .before .before .before in (st .pre .0, (st .pre .1, src-past _ _ _ _ (omega arith)))
 
 same-length : tie.Need-same-length
 same-length c = search needs
 
-returns-3 : tie.Need-returns-3
-returns-3 c = search needs
+returns : tie.Need-returns
+returns c = search needs
 
 same-length-2 : tie.Need-same-length-2
 same-length-2 c = search needs
 
-returns-4 : tie.Need-returns-4
-returns-4 c = search needs
+returns-2 : tie.Need-returns-2
+returns-2 c = search needs
+
+same-length-3 : tie.Need-same-length-3
+same-length-3 c = search needs
+
+returns-3 : tie.Need-returns-3
+returns-3 c = search needs
 
 pub wrap-copy-spec : {M : Type 1} → statement M
 wrap-copy-spec =
     tie.close
     (tie.spec
     as-index-requires
+    sub-if1
     as-index-requires-2
-    returns
-    returns-2
-    as-index-requires-3
-    wrap-sub-requires
-    as-index-requires-4
-    copy-src-before-dst-requires
-    copy-dst-before-src-requires
+    sub-if2
+    copy-requires
+    wrap-copy-apart-requires
+    wrap-copy-apart-requires-2
     same-length
-    returns-3
+    returns
     same-length-2
-    returns-4)
+    returns-2
+    same-length-3
+    returns-3)
