@@ -42,6 +42,8 @@ fn times_of(work: Work, n: usize, wrapped: bool) -> Times {
 }
 
 fn print_calls() {
+    println!("Calls. `!` marks a figure that falls short of its aim.");
+    println!();
     println!("| calls | wrapped | n | proved ns | std ns | ratio | inlined std ns | growth, proved | growth, std |");
     println!("|---|---|---:|---:|---:|---:|---:|---:|---:|");
     for work in Work::ALL {
@@ -79,16 +81,21 @@ fn falls_short(work: Work, n: usize, t: &Times) -> bool {
     (work.moves() && n >= 1_000 && ratio > 1.1) || (work.is_small() && ratio > 2.0)
 }
 
+/// Prints the tables that are asked for by name, or all.
 fn main() {
+    let tables: [(&str, fn()); 3] = [("calls", print_calls), ("copies", copies::print), ("refusals", refusals::print)];
+    let asked: Vec<String> = std::env::args().skip(1).collect();
+    if let Some(unknown) = asked.iter().find(|a| tables.iter().all(|(name, _)| name != a)) {
+        eprintln!("bench: no table '{unknown}': ask for calls, copies or refusals, or for nothing to get all");
+        std::process::exit(2);
+    }
     println!("{}", machine());
-    println!();
-    println!("Calls. `!` marks a figure that falls short of its aim.");
-    println!();
-    print_calls();
-    println!();
-    copies::print();
-    println!();
-    refusals::print();
+    for (name, print) in tables {
+        if asked.is_empty() || asked.iter().any(|a| a == name) {
+            println!();
+            print();
+        }
+    }
 }
 
 /// The machine and the versions.
