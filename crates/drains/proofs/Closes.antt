@@ -12,6 +12,7 @@ use lib.ListN.{length, take, drop}
 use Rattle.drains.proofs.Rooms.{none-moved, head-moved, tail-moved, lay-short}
 use Rattle.drains.specs.Holes.{HoleClosed, joinedHead, joinedMoved, shutFrom}
 use Rattle.rules.proofs.Drains.{kept-length}
+use Rattle.rules.proofs.Places.{place-zero}
 use Rattle.rules.proofs.Slots.{length-listOf, lay-none}
 use Rattle.rules.proofs.Tests.{by-test}
 use Rattle.rules.specs.Drains.{Drain, onDrain, closedRec, closedHead, closedMoved, keptList, wholeList, spread}
@@ -31,10 +32,10 @@ module _ (b : List ℕ) (h s r k t : ℕ) where
 
   module _ (hh : h < length b) (fits : s + r + k + t ≤ length b) (some : k ≢ 0) where
     -- the earlier elements move
-    pub by-head : (b′ : List ℕ) (h′ : ℕ) → s + r < t → h′ ≡ place (length b) h k → b′ ≡ copied b h h′ s → HoleClosed b b′ h s r k t h′ s
+    pub by-head : (b′ : List ℕ) (h′ : ℕ) → s + r < t → h′ ≡ place (length b) h k → b′ ≡ copied b (place (length b) h 0) (place (length b) h k) s → HoleClosed b b′ h s r k t h′ s
     unfolding joinedHead joinedMoved whether
     by-head b′ h′ lt stepped moved =
-        rw (moved, stepped)
+        rw (moved, stepped, place-zero (length b) h hh)
         (record { head = rw (ne-eqb k 0 some, lt-ltb (s + r) t lt); moved = rw (ne-eqb k 0 some, lt-ltb (s + r) t lt); room = head-moved b h s (k + r) t hh (omega arith) r k refl })
 
     -- the tail moves

@@ -16,15 +16,15 @@ pub struct Joined {
     pub moved: usize,
 }
 
-// Moves the last `tail` elements of a queue from position `from` to position `to`.
-pub fn move_tail(slots: &mut [u32], head: WrappedIndex, from: usize, to: usize, tail: usize)
-    requires { ⌜ (head .0 < length (now slots)) × (from + tail ≤ length (now slots)) × (to + tail ≤ length (now slots)) × (length (now slots) ≤ mostSlots) ⌝ }
-    ensures { λ _. ⌜ now (slots .exit) ≡ copied (now (slots .entry)) (place (length (now (slots .entry))) (head .0) from) (place (length (now (slots .entry))) (head .0) to) tail ⌝ }
+// Moves `n` elements of a queue from position `from` to position `to`.
+pub fn move_elements(slots: &mut [u32], head: WrappedIndex, from: usize, to: usize, n: usize)
+    requires { ⌜ (head .0 < length (now slots)) × (from + n ≤ length (now slots)) × (to + n ≤ length (now slots)) × (length (now slots) ≤ mostSlots) ⌝ }
+    ensures { λ _. ⌜ now (slots .exit) ≡ copied (now (slots .entry)) (place (length (now (slots .entry))) (head .0) from) (place (length (now (slots .entry))) (head .0) to) n ⌝ }
 {
     let cap = slots.len();
     let src = places::wrap_add(cap, head, from);
     let dst = places::wrap_add(cap, head, to);
-    copies::wrap_copy(slots, src, dst, tail);
+    copies::wrap_copy(slots, src, dst, n);
 }
 
 // Closes a hole. In front of it stand `start` elements, and room for `new` ones, which the caller lays once the hole is closed; behind it stand
@@ -52,7 +52,7 @@ pub fn close_hole(
         //             H
         // [ . . . . . h h n t t t t . . ]
         let next = places::wrap_add(slots.len(), head, hole);
-        copies::wrap_copy(slots, head, next, start);
+        move_elements(slots, head, 0, hole, start);
         return Joined {
             head: next,
             moved: start,
@@ -63,7 +63,7 @@ pub fn close_hole(
     // [ . . h h h n d d d t t . . . ]
     //       H
     // [ . . h h h n t t . . . . . . ]
-    move_tail(slots, head, start + new + hole, start + new, tail);
+    move_elements(slots, head, start + new + hole, start + new, tail);
     Joined { head, moved: tail }
 }
 

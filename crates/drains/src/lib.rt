@@ -17,4 +17,4 @@ pub use calls::drain_next_back;
 pub use holes::Joined;
 pub use holes::close_hole;
 pub use holes::head_over;
-pub use holes::move_tail;
+pub use holes::move_elements;

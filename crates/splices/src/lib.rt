@@ -34,7 +34,7 @@ fn make_room(
         // [ . h h d d t t t . . . . . . ]
         //     H
         // [ . h h n n n n t t t . . . . ]
-        drains::move_tail(slots, head, start + drained, start + new, tail);
+        drains::move_elements(slots, head, start + drained, start + new, tail);
         return Joined { head, moved: tail };
     }
     drains::close_hole(slots, head, start, new, drained - new, tail)

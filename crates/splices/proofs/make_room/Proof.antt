@@ -5,20 +5,20 @@ use Rattle.splices.proofs.Made.{by-tail, by-hole}
 use Rattle.splices.proofs.make_room.Statement.{statement}
 use Rattle.splices.proofs.make_room.Tie as tie
 
-add-move-tail : tie.Need-add-move-tail
-add-move-tail c = search needs
+add-move-elements : tie.Need-add-move-elements
+add-move-elements c = search needs
 
-add-move-tail-2 : tie.Need-add-move-tail-2
-add-move-tail-2 c = search needs
+add-move-elements-2 : tie.Need-add-move-elements-2
+add-move-elements-2 c = search needs
 
-move-tail-requires : tie.Need-move-tail-requires
-move-tail-requires c κs = search needs
+move-elements-requires : tie.Need-move-elements-requires
+move-elements-requires c κs = search needs
 
 same-length : tie.Need-same-length
 same-length c = search needs
 
 returns : tie.Need-returns
-returns c = by-tail _ _ _ _ _ _ _ (omega arith) (omega arith) (omega arith) (omega arith) (c .before .before .move-tail .ensures)
+returns c = by-tail _ _ _ _ _ _ _ (omega arith) (omega arith) (omega arith) (omega arith) (c .before .before .move-elements .ensures)
 
 close-hole-requires : tie.Need-close-hole-requires
 close-hole-requires c κs = search needs
@@ -33,9 +33,9 @@ pub make-room-spec : {M : Type 1} → statement M
 make-room-spec =
     tie.close
     (tie.spec
-    add-move-tail
-    add-move-tail-2
-    move-tail-requires
+    add-move-elements
+    add-move-elements-2
+    move-elements-requires
     same-length
     returns
     close-hole-requires

@@ -1,10 +1,7 @@
 -- `drains::close_hole` meets its contract. Assumes nothing.
-use mathlib.Core.Path.{sym}
 use native.Mathlib.Omega.{arith}
 use borrow.Author.Needs.{needs}
 use Rattle.drains.proofs.Closes.{no-hole, by-head, by-tail}
-use Rattle.drains.proofs.Rooms.{can-move}
-use Rattle.rules.proofs.Places.{place-zero}
 use Rattle.drains.proofs.holes.close_hole.Statement.{statement}
 use Rattle.drains.proofs.holes.close_hole.Tie as tie
 
@@ -17,34 +14,32 @@ add-if2 c = search needs
 wrap-add-requires : tie.Need-wrap-add-requires
 wrap-add-requires c κs = search needs
 
-wrap-copy-requires : tie.Need-wrap-copy-requires
-wrap-copy-requires c κs =
-    let a = c .before .before .before .before .before .args in
-    can-move _ (a .head .0) 0 (a .hole) _ _ _ (omega arith) (omega arith) (omega arith) (omega arith) (sym (place-zero _ (a .head .0) (omega arith))) (c .before .wrap-add .ensures)
+move-elements-requires : tie.Need-move-elements-requires
+move-elements-requires c κs = search needs
 
 same-length : tie.Need-same-length
 same-length c = search needs
 
 returns-2 : tie.Need-returns-2
-returns-2 c = by-head _ _ _ _ _ _ (omega arith) (omega arith) (c .before .before .before .before .before .before .if1 .left) _ _ (omega arith) (c .before .before .before .before .wrap-add .ensures) (c .before .before .wrap-copy .ensures)
+returns-2 c = by-head _ _ _ _ _ _ (omega arith) (omega arith) (c .before .before .before .before .before .before .if1 .left) _ _ (omega arith) (c .before .before .before .before .wrap-add .ensures) (c .before .before .move-elements .ensures)
 
-add-move-tail : tie.Need-add-move-tail
-add-move-tail c = search needs
+add-move-elements : tie.Need-add-move-elements
+add-move-elements c = search needs
 
-add-move-tail-2 : tie.Need-add-move-tail-2
-add-move-tail-2 c = search needs
+add-move-elements-2 : tie.Need-add-move-elements-2
+add-move-elements-2 c = search needs
 
-add-move-tail-3 : tie.Need-add-move-tail-3
-add-move-tail-3 c = search needs
+add-move-elements-3 : tie.Need-add-move-elements-3
+add-move-elements-3 c = search needs
 
-move-tail-requires : tie.Need-move-tail-requires
-move-tail-requires c κs = search needs
+move-elements-requires-2 : tie.Need-move-elements-requires-2
+move-elements-requires-2 c κs = search needs
 
 same-length-2 : tie.Need-same-length-2
 same-length-2 c = search needs
 
 returns-3 : tie.Need-returns-3
-returns-3 c = by-tail _ _ _ _ _ _ (omega arith) (omega arith) (c .before .before .before .before .before .if1 .left) _ (omega arith) (c .before .before .move-tail .ensures)
+returns-3 c = by-tail _ _ _ _ _ _ (omega arith) (omega arith) (c .before .before .before .before .before .if1 .left) _ (omega arith) (c .before .before .move-elements2 .ensures)
 
 pub close-hole-spec : {M : Type 1} → statement M
 close-hole-spec =
@@ -53,12 +48,12 @@ close-hole-spec =
     returns
     add-if2
     wrap-add-requires
-    wrap-copy-requires
+    move-elements-requires
     same-length
     returns-2
-    add-move-tail
-    add-move-tail-2
-    add-move-tail-3
-    move-tail-requires
+    add-move-elements
+    add-move-elements-2
+    add-move-elements-3
+    move-elements-requires-2
     same-length-2
     returns-3)

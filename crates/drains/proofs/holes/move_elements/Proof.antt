@@ -1,12 +1,12 @@
--- `drains::move_tail` meets its contract. Assumes nothing.
+-- `drains::move_elements` meets its contract. Assumes nothing.
 use mathlib.Core.Path.{_∙_}
 use native.Mathlib.Omega.{arith}
 use borrow.Author.Needs.{needs}
 use denote.Ref.{now}
 use Rattle.drains.proofs.Rooms.{can-move}
 use Rattle.rules.specs.Slots.{copied}
-use Rattle.drains.proofs.holes.move_tail.Statement.{statement}
-use Rattle.drains.proofs.holes.move_tail.Tie as tie
+use Rattle.drains.proofs.holes.move_elements.Statement.{statement}
+use Rattle.drains.proofs.holes.move_elements.Tie as tie
 
 wrap-add-requires : tie.Need-wrap-add-requires
 wrap-add-requires c κs = search needs
@@ -25,9 +25,9 @@ returns c =
     let a = c .before .before .before .before .before .before .before .args in
     let p = c .before .before .before .before .before .wrap-add .ensures in
     let q = c .before .before .before .before .wrap-add2 .ensures in
-    c .before .before .wrap-copy .ensures ∙ (λ t. copied (now (a .slots)) (p t) (q t) (a .tail))
+    c .before .before .wrap-copy .ensures ∙ (λ t. copied (now (a .slots)) (p t) (q t) (a .n))
 
-pub move-tail-spec : {M : Type 1} → statement M
-move-tail-spec =
+pub move-elements-spec : {M : Type 1} → statement M
+move-elements-spec =
     tie.close
     (tie.spec wrap-add-requires wrap-add-requires-2 wrap-copy-requires same-length returns)
