@@ -147,15 +147,16 @@ static void test_looks(void)
 {
     uint32_t s[6], t[6];
     deque q = wrapped(s), other = wrapped(t);
-    struct scorebucket_ranges_reply g = scorebucket_slice_ranges(s, 6, q, 1, 4);
-    EXPECT(g.refused == 0 && g.front.start == 5 && g.front.end == 6 && g.back.start == 0 && g.back.end == 2);
-    EXPECT(scorebucket_slice_ranges(s, 6, q, 1, 5).refused == SCOREBUCKET_POSITION);
+    struct scorebucket_runs g = {{9, 9}, {9, 9}};
+    EXPECT(scorebucket_slice_ranges(s, 6, q, 1, 5, &g) == SCOREBUCKET_POSITION && g.front.start == 9 && g.back.end == 9);
+    EXPECT(scorebucket_slice_ranges(s, 6, q, 1, 4, &g) == 0);
+    EXPECT(g.front.start == 5 && g.front.end == 6 && g.back.start == 0 && g.back.end == 2);
     EXPECT(scorebucket_contains(s, 6, q, 30).is && !scorebucket_contains(s, 6, q, 7).is);
-    EXPECT(scorebucket_eq(s, 6, q, t, 6, other).is && scorebucket_eq(s, 6, q, s, 6, q).is);
-    EXPECT(scorebucket_cmp(s, 6, q, t, 6, other).order == SCOREBUCKET_SAME);
+    EXPECT(scorebucket_eq(s, 6, &q, t, 6, &other).is && scorebucket_eq(s, 6, &q, s, 6, &q).is);
+    EXPECT(scorebucket_cmp(s, 6, &q, t, 6, &other).order == SCOREBUCKET_SAME);
     scorebucket_pop_front(t, 6, &other);
-    EXPECT(!scorebucket_eq(s, 6, q, t, 6, other).is);
-    EXPECT(scorebucket_cmp(s, 6, q, t, 6, other).order == SCOREBUCKET_LESS && scorebucket_cmp(t, 6, other, s, 6, q).order == SCOREBUCKET_GREATER);
+    EXPECT(!scorebucket_eq(s, 6, &q, t, 6, &other).is);
+    EXPECT(scorebucket_cmp(s, 6, &q, t, 6, &other).order == SCOREBUCKET_LESS && scorebucket_cmp(t, 6, &other, s, 6, &q).order == SCOREBUCKET_GREATER);
     struct scorebucket_search_reply f = scorebucket_binary_search(s, 6, q, 30);
     EXPECT(f.refused == 0 && f.found == 1 && f.position == 2);
     f = scorebucket_binary_search(s, 6, q, 31);

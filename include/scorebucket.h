@@ -6,15 +6,15 @@
  *
  * Memory: the slots are the caller's, and so is every other pointer. Nothing is allocated, freed or kept: a call uses its pointers until it returns.
  * The number of slots is the capacity, at most 16,000. A queue is its slots and a small record {head, len}: a call that changes it takes the record's address
- * and changes it there, a call that only looks takes it by value. Calls on different slots and records may run at the same time.
+ * and changes it there, a call that only looks takes it by value, but for `eq` and `cmp`, which take the addresses of two. Calls on different slots and records may run at the same time.
  *
  * What a caller must see to, since no call can test it:
  *   - a pointer is not null (with length 0 it may point anywhere else), aligned for what it points to, and its length is no more than what stands there;
  *   - what is written by a call (a pointer without `const`) overlaps nothing else that is lent to the same call. Two `const` pointers may overlap;
  *   - while a drain is open, its queue's slots are used by that drain's calls alone, and the queue's record by none; a drain is closed once.
  *
- * Answers: `refused` is 0, or the number of a refusal; refused, slots and records are as they were, and all else is 0. Each answer but that of
- * `slice_ranges` has two words, and comes back in registers.
+ * Answers: `refused` is 0, or the number of a refusal; refused, slots and records are as they were, and all else is 0. An answer has two words at most, and comes
+ * back in registers.
  * `moved` says how many elements now stand in another slot. `handed` is 1 where `number` was handed over; where there was nothing, both are 0. */
 #ifndef SCOREBUCKET_H
 #define SCOREBUCKET_H
@@ -100,8 +100,7 @@ struct scorebucket_count_reply {
 };
 
 /* The two runs of a range. */
-struct scorebucket_ranges_reply {
-    size_t refused;
+struct scorebucket_runs {
     struct scorebucket_span front, back;
 };
 
@@ -186,7 +185,7 @@ struct scorebucket_reply scorebucket_splice(uint32_t *slots, size_t cap, struct 
 /* ---- runs and walks */
 
 /* Gives the two runs of positions start..end: the elements of `front`, then those of `back`, as parts of the slots. Refusal: 3. */
-struct scorebucket_ranges_reply scorebucket_slice_ranges(const uint32_t *slots, size_t cap, struct scorebucket_deque q, size_t start, size_t end);
+size_t scorebucket_slice_ranges(const uint32_t *slots, size_t cap, struct scorebucket_deque q, size_t start, size_t end, struct scorebucket_runs *runs);
 /* Begins a walk over the whole list. Gives the refusal number, or 0. */
 size_t scorebucket_begin_walk(const uint32_t *slots, size_t cap, const struct scorebucket_deque *q, struct scorebucket_walk *w);
 /* Gives the element at the walk's low end, which steps on by one. */
@@ -199,9 +198,9 @@ struct scorebucket_seen_reply scorebucket_walk_next_back(const uint32_t *slots, 
 /* Says whether x stands in the queue. */
 struct scorebucket_truth_reply scorebucket_contains(const uint32_t *slots, size_t cap, struct scorebucket_deque q, uint32_t x);
 /* Says whether the two queues hold the same list. Refusals: the other's 1 and 2, too. */
-struct scorebucket_truth_reply scorebucket_eq(const uint32_t *slots, size_t cap, struct scorebucket_deque q, const uint32_t *other_slots, size_t other_cap, struct scorebucket_deque other);
+struct scorebucket_truth_reply scorebucket_eq(const uint32_t *slots, size_t cap, const struct scorebucket_deque *q, const uint32_t *other_slots, size_t other_cap, const struct scorebucket_deque *other);
 /* Says how the queue's list stands to the other's in lexicographic order. Refusals: the other's 1 and 2, too. */
-struct scorebucket_order_reply scorebucket_cmp(const uint32_t *slots, size_t cap, struct scorebucket_deque q, const uint32_t *other_slots, size_t other_cap, struct scorebucket_deque other);
+struct scorebucket_order_reply scorebucket_cmp(const uint32_t *slots, size_t cap, const struct scorebucket_deque *q, const uint32_t *other_slots, size_t other_cap, const struct scorebucket_deque *other);
 /* Searches a sorted queue for x by halving. */
 struct scorebucket_search_reply scorebucket_binary_search(const uint32_t *slots, size_t cap, struct scorebucket_deque q, uint32_t x);
 /* Counts the elements that meet the test in a queue in which all of them stand before all others. Refusal: 3, for an unknown kind. */

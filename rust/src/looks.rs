@@ -40,7 +40,7 @@ impl Queue<'_> {
     /// Whether both hold the same list.
     #[inline]
     pub fn eq(&self, other: &Queue<'_>) -> Result<bool, Refusal> {
-        let reply = raw::eq(self.slots, self.record, other.slots, other.record);
+        let reply = raw::eq(self.slots, &self.record, other.slots, &other.record);
         Refusal::of(reply.refused)?;
         Ok(reply.is)
     }
@@ -49,7 +49,7 @@ impl Queue<'_> {
     #[inline]
     #[allow(clippy::should_implement_trait)] // the trait's can't refuse
     pub fn cmp(&self, other: &Queue<'_>) -> Result<Ordering, Refusal> {
-        let reply = raw::cmp(self.slots, self.record, other.slots, other.record);
+        let reply = raw::cmp(self.slots, &self.record, other.slots, &other.record);
         Refusal::of(reply.refused)?;
         Ok(match reply.order {
             1 => Ordering::Less,
@@ -82,10 +82,16 @@ impl Queue<'_> {
     #[inline]
     pub fn slices(&self, range: impl RangeBounds<usize>) -> Result<(&[u32], &[u32]), Refusal> {
         let (start, end) = self.ends(range)?;
-        let reply = raw::slice_ranges(self.slots, self.record, start, end);
-        Refusal::of(reply.refused)?;
+        let mut runs = raw::Runs::default();
+        Refusal::of(raw::slice_ranges(
+            self.slots,
+            self.record,
+            start,
+            end,
+            &mut runs,
+        ))?;
         let part = |span: raw::Span| &self.slots[span.start..span.end];
-        Ok((part(reply.front), part(reply.back)))
+        Ok((part(runs.front), part(runs.back)))
     }
 
     /// The two runs of the whole list.

@@ -36,7 +36,7 @@ pub(crate) struct Walk {
 
 /// A part of the slots.
 #[repr(C)]
-#[derive(Clone, Copy)]
+#[derive(Clone, Copy, Default)]
 pub(crate) struct Span {
     pub start: usize,
     pub end: usize,
@@ -96,9 +96,8 @@ pub(crate) struct CountReply {
 
 /// The two runs of a range.
 #[repr(C)]
-#[derive(Clone, Copy)]
-pub(crate) struct RangesReply {
-    pub refused: usize,
+#[derive(Clone, Copy, Default)]
+pub(crate) struct Runs {
     pub front: Span,
     pub back: Span,
 }
@@ -276,7 +275,8 @@ mod exported {
             q: Record,
             start: usize,
             end: usize,
-        ) -> RangesReply;
+            runs: *mut Runs,
+        ) -> usize;
         pub fn scorebucket_begin_walk(
             slots: *const u32,
             slots_len: usize,
@@ -302,18 +302,18 @@ mod exported {
         pub fn scorebucket_eq(
             slots: *const u32,
             slots_len: usize,
-            q: Record,
+            q: *const Record,
             other_slots: *const u32,
             other_slots_len: usize,
-            other: Record,
+            other: *const Record,
         ) -> TruthReply;
         pub fn scorebucket_cmp(
             slots: *const u32,
             slots_len: usize,
-            q: Record,
+            q: *const Record,
             other_slots: *const u32,
             other_slots_len: usize,
-            other: Record,
+            other: *const Record,
         ) -> OrderReply;
         pub fn scorebucket_binary_search(
             slots: *const u32,
@@ -566,8 +566,14 @@ pub(crate) fn splice(
 }
 
 #[inline]
-pub(crate) fn slice_ranges(slots: &[u32], q: Record, start: usize, end: usize) -> RangesReply {
-    unsafe { exported::scorebucket_slice_ranges(slots.as_ptr(), slots.len(), q, start, end) }
+pub(crate) fn slice_ranges(
+    slots: &[u32],
+    q: Record,
+    start: usize,
+    end: usize,
+    runs: &mut Runs,
+) -> usize {
+    unsafe { exported::scorebucket_slice_ranges(slots.as_ptr(), slots.len(), q, start, end, runs) }
 }
 
 #[inline]
@@ -591,7 +597,7 @@ pub(crate) fn contains(slots: &[u32], q: Record, x: u32) -> TruthReply {
 }
 
 #[inline]
-pub(crate) fn eq(slots: &[u32], q: Record, other_slots: &[u32], other: Record) -> TruthReply {
+pub(crate) fn eq(slots: &[u32], q: &Record, other_slots: &[u32], other: &Record) -> TruthReply {
     unsafe {
         exported::scorebucket_eq(
             slots.as_ptr(),
@@ -605,7 +611,7 @@ pub(crate) fn eq(slots: &[u32], q: Record, other_slots: &[u32], other: Record) -
 }
 
 #[inline]
-pub(crate) fn cmp(slots: &[u32], q: Record, other_slots: &[u32], other: Record) -> OrderReply {
+pub(crate) fn cmp(slots: &[u32], q: &Record, other_slots: &[u32], other: &Record) -> OrderReply {
     unsafe {
         exported::scorebucket_cmp(
             slots.as_ptr(),

@@ -4,6 +4,7 @@ use mathlib.Core.Path.{_≡_, _∙_, ap}
 use Prim.Native.Nat.{ℕ}
 use Rattle.replies.specs.InC.{Said, answerInC, toldInC, openingInC, openingToldInC, pairingInC, pairingToldInC}
 use Rattle.rules.specs.Drains.{Drain}
+use Rattle.rules.specs.Looks.{Look, lookAtBoth}
 use Rattle.rules.specs.Outcome.{Answer, Held, Outcome, doRule, doOpen, told}
 use Rattle.rules.specs.Pairs.{Pairing, Paired, toldPairing, doAppend, doSplit}
 use Rattle.rules.specs.Records.{Rec}
@@ -13,6 +14,10 @@ use Rattle.rules.specs.Rule.{Rule}
 
 pub crosses : {A B : Type 0} (f : A → B) (r : B) (a a′ : A) → r ≡ f a → a ≡ a′ → r ≡ f a′
 crosses f r a a′ flat is = flat ∙ ap f is
+
+-- a look at two queues: r and o are the records that the call below was given, r′ and o′ those in the caller's numbers
+pub both-look : {A B : Type 0} (f : Look A → B) (p : B) (a : Look A) (b b′ : List ℕ) (r r′ o o′ : Rec) (see : List ℕ → List ℕ → A) → r ≡ r′ → o ≡ o′ → p ≡ f a → a ≡ lookAtBoth b r b′ o see → p ≡ f (lookAtBoth b r′ b′ o′ see)
+both-look f p a b b′ r r′ o o′ see ours theirs flat is = flat ∙ ap f (is ∙ (λ t. lookAtBoth b (ours t) b′ (theirs t) see))
 
 -- with the bytes s
 pub crosses-with : {A B S : Type 0} (f : A → B) (r : B) (a a′ : A) (s s′ : S) → r ≡ f a → _≡_ {A = A × S} (a, s) (a′, s′) → _≡_ {A = B × S} (r, s) (f a′, s′)

@@ -2,9 +2,11 @@
 use queue::Deque;
 use replies::OrderReply;
 use replies::TruthReply;
+use replies::deque_in;
 ghost use mathlib.Core.Path.{_≡_};
 ghost use Rattle.rules.specs.Looks.{lookAt, lookAtBoth, has, same, order};
 ghost use Rattle.replies.specs.InC.{truthInC, orderInC};
+ghost use Rattle.replies.specs.Records.{recIn};
 ghost use Rattle.replies.specs.Replies.{ofTruthReply, ofOrderReply};
 ghost use Rattle.queue.specs.Answers.{recOf};
 
@@ -20,24 +22,28 @@ pub extern "C" fn scorebucket_contains(slots: &[u32], q: Deque, x: u32) -> Truth
 #[no_mangle]
 pub extern "C" fn scorebucket_eq(
     slots: &[u32],
-    q: Deque,
+    q: &[usize; 2],
     other_slots: &[u32],
-    other: Deque,
+    other: &[usize; 2],
 ) -> TruthReply
-    ensures { λ r. ⌜ ofTruthReply r ≡ truthInC (lookAtBoth (now (slots .entry)) (recOf q) (now («other_slots» .entry)) (recOf other) same) ⌝ }
+    ensures { λ r. ⌜ ofTruthReply r ≡ truthInC (lookAtBoth (now (slots .entry)) (recIn (now (q .entry))) (now («other_slots» .entry)) (recIn (now (other .entry))) same) ⌝ }
 {
-    replies::of_truth(compare::eq(slots, q, other_slots, other))
+    let ours = deque_in(q);
+    let theirs = deque_in(other);
+    replies::of_truth(compare::eq(slots, ours, other_slots, theirs))
 }
 
 // How the list of the queue stands to that of the other in lexicographic order.
 #[no_mangle]
 pub extern "C" fn scorebucket_cmp(
     slots: &[u32],
-    q: Deque,
+    q: &[usize; 2],
     other_slots: &[u32],
-    other: Deque,
+    other: &[usize; 2],
 ) -> OrderReply
-    ensures { λ r. ⌜ ofOrderReply r ≡ orderInC (lookAtBoth (now (slots .entry)) (recOf q) (now («other_slots» .entry)) (recOf other) order) ⌝ }
+    ensures { λ r. ⌜ ofOrderReply r ≡ orderInC (lookAtBoth (now (slots .entry)) (recIn (now (q .entry))) (now («other_slots» .entry)) (recIn (now (other .entry))) order) ⌝ }
 {
-    replies::of_ordering(compare::cmp(slots, q, other_slots, other))
+    let ours = deque_in(q);
+    let theirs = deque_in(other);
+    replies::of_ordering(compare::cmp(slots, ours, other_slots, theirs))
 }

@@ -10,7 +10,7 @@ use Rattle.rules.specs.Makes.{Making, MadeIn}
 use Rattle.rules.specs.Outcome.{Answer, Held, shut, drawn, Outcome}
 use Rattle.rules.specs.Pairs.{Pairing, Paired}
 use Rattle.rules.specs.Records.{Rec}
-use Rattle.rules.specs.Runs.{TwoRuns, twoRuns, fromTo}
+use Rattle.rules.specs.Runs.{TwoRuns}
 use Rattle.rules.specs.Search.{Spot, foundAt, placeAt}
 use Rattle.rules.specs.Walks.{Walk, WalkStep}
 
@@ -112,8 +112,9 @@ spotInC l = lookInC spotNumbers (0, 0) l
 abbrev pub countInC : Look ℕ → ℕ × ℕ
 countInC l = lookInC (λ (n : ℕ). n) 0 l
 
-abbrev pub runsInC : Look TwoRuns → ℕ × TwoRuns
-runsInC l = lookInC (λ (t : TwoRuns). t) (twoRuns (fromTo 0 0) (fromTo 0 0)) l
+-- the places of two runs
+abbrev pub runsInC : TwoRuns → Look TwoRuns → ℕ × TwoRuns
+runsInC old l = lookInC (λ (t : TwoRuns). t) old l
 
 -- ---- walks
 

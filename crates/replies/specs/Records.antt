@@ -4,6 +4,7 @@ use Prim.Native.Nat.{ℕ}
 use lib.ListN.{getD}
 use Rattle.rules.specs.Drains.{Drain}
 use Rattle.rules.specs.Records.{Rec}
+use Rattle.rules.specs.Runs.{TwoRuns, twoRuns, fromTo}
 use Rattle.rules.specs.Walks.{Walk}
 
 -- head, len
@@ -17,3 +18,7 @@ drainIn l = record { head = getD l 0 0; start = getD l 1 0; drained = getD l 2 0
 -- the record's two, low, high
 unfoldable pub walkIn : List ℕ → Walk
 walkIn l = record { rec = recIn l; low = getD l 2 0; high = getD l 3 0 }
+
+-- where the front run begins and ends, and the back run
+unfoldable pub runsIn : List ℕ → TwoRuns
+runsIn l = twoRuns (fromTo (getD l 0 0) (getD l 1 0)) (fromTo (getD l 2 0) (getD l 3 0))

@@ -1,8 +1,6 @@
 -- The structs, field by field, in the terms of `InC`. Assumes nothing.
 use mathlib.Core.Bool.{Bool}
 use Prim.Native.Nat.{ℕ}
-use Rattle.rules.specs.Runs.{TwoRuns, twoRuns}
-use Rattle.runs.specs.Answers.{spanOf}
 use Rattle.replies.specs.InC.{Said}
 use Rattle.replies.specs.declared.changes.Reply.{Reply}
 use Rattle.replies.specs.declared.looks.SeenReply.{SeenReply}
@@ -10,7 +8,6 @@ use Rattle.replies.specs.declared.looks.TruthReply.{TruthReply}
 use Rattle.replies.specs.declared.looks.OrderReply.{OrderReply}
 use Rattle.replies.specs.declared.looks.SearchReply.{SearchReply}
 use Rattle.replies.specs.declared.looks.CountReply.{CountReply}
-use Rattle.replies.specs.declared.looks.RangesReply.{RangesReply}
 
 abbrev pub ofReply : Reply → Said
 ofReply r = (r .refused, (r .moved, (r .handed, r .number)))
@@ -29,6 +26,3 @@ ofSearchReply r = (r .refused, (r .position, r .found))
 
 abbrev pub ofCountReply : CountReply → ℕ × ℕ
 ofCountReply r = (r .refused, r .count)
-
-abbrev pub ofRangesReply : RangesReply → ℕ × TwoRuns
-ofRangesReply r = (r .refused, twoRuns (spanOf (r .front)) (spanOf (r .back)))

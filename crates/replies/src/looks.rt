@@ -1,20 +1,17 @@
-// The answers of the calls that only look. Refused, the other fields are 0, false, or 0..0.
+// The answers of the calls that only look. Refused, the other fields are 0 or false.
 use compare::Ordering;
 use compare::Truth;
 use images::Written;
 use queue::Found;
-use runs::Ranges;
-use runs::Span;
 use search::Point;
 use search::Searched;
 ghost use mathlib.Core.Path.{_≡_};
 ghost use Rattle.queue.specs.Answers.{ofFound};
 ghost use Rattle.compare.specs.Answers.{ofTruth, ofOrdering};
 ghost use Rattle.search.specs.Answers.{ofSearched, ofPoint};
-ghost use Rattle.runs.specs.Answers.{ofRanges};
 ghost use Rattle.images.specs.Answers.{ofWritten};
-ghost use Rattle.replies.specs.InC.{seenInC, truthInC, orderInC, spotInC, countInC, runsInC};
-ghost use Rattle.replies.specs.Replies.{ofSeenReply, ofTruthReply, ofOrderReply, ofSearchReply, ofCountReply, ofRangesReply};
+ghost use Rattle.replies.specs.InC.{seenInC, truthInC, orderInC, spotInC, countInC};
+ghost use Rattle.replies.specs.Replies.{ofSeenReply, ofTruthReply, ofOrderReply, ofSearchReply, ofCountReply};
 
 // What a look at one element answers: `seen` is 1 where `number` stands there, else both are 0.
 #[repr(C)]
@@ -51,14 +48,6 @@ pub struct SearchReply {
 pub struct CountReply {
     pub refused: usize,
     pub count: usize,
-}
-
-// The two runs of a range, as places in the slots.
-#[repr(C)]
-pub struct RangesReply {
-    pub refused: usize,
-    pub front: Span,
-    pub back: Span,
 }
 
 // The answer of `get`, `front` and `back`.
@@ -166,24 +155,6 @@ pub fn of_written(written: Written) -> CountReply
         Written::Refused(refusal) => CountReply {
             refused: answers::number_of(refusal),
             count: 0,
-        },
-    }
-}
-
-// The answer of `slice_ranges`.
-pub fn of_ranges(ranges: Ranges) -> RangesReply
-    ensures { λ r. ⌜ ofRangesReply r ≡ runsInC (ofRanges ranges) ⌝ }
-{
-    match ranges {
-        Ranges::Runs { front, back } => RangesReply {
-            refused: 0,
-            front,
-            back,
-        },
-        Ranges::Refused(refusal) => RangesReply {
-            refused: answers::number_of(refusal),
-            front: Span { start: 0, end: 0 },
-            back: Span { start: 0, end: 0 },
         },
     }
 }

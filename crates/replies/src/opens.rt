@@ -1,4 +1,4 @@
-// The answers of the calls of a drain and of a walk by value.
+// The answers of the calls of a drain and of a walk by value, and of the call for two runs.
 use super::changes::Reply;
 use super::changes::done;
 use super::changes::hands;
@@ -6,18 +6,21 @@ use super::changes::refuses;
 use super::looks::SeenReply;
 use super::records::store_deque;
 use super::records::store_drain;
+use super::records::store_runs;
 use super::records::store_walk;
 use drains::Closed;
 use drains::Drawn;
 use drains::Opened;
+use runs::Ranges;
 use walks::Begun;
 use walks::Stepped;
 ghost use mathlib.Core.Path.{_≡_};
 ghost use Rattle.drains.specs.Answers.{ofOpened, ofDrawn, ofClosed};
+ghost use Rattle.runs.specs.Answers.{ofRanges};
 ghost use Rattle.walks.specs.Answers.{ofBegun, ofStepped};
 ghost use Rattle.rules.specs.Outcome.{drawn};
-ghost use Rattle.replies.specs.InC.{answerInC, openingInC, closingInC, begunInC, stepInC};
-ghost use Rattle.replies.specs.Records.{recIn, drainIn, walkIn};
+ghost use Rattle.replies.specs.InC.{answerInC, openingInC, closingInC, begunInC, stepInC, runsInC};
+ghost use Rattle.replies.specs.Records.{recIn, drainIn, walkIn, runsIn};
 ghost use Rattle.replies.specs.Replies.{ofReply, ofSeenReply};
 
 // Stores the record of a drain, if it was opened.
@@ -124,5 +127,18 @@ pub fn stepped(w: &mut [usize; 4], stepped: Stepped) -> SeenReply
                 number: 0,
             }
         }
+    }
+}
+
+// Stores the places of two runs, if there is such a range, and gives the refusal number, or 0.
+pub fn ranged(places: &mut [usize; 4], ranges: Ranges) -> usize
+    ensures { λ r. ⌜ (r, runsIn (now (places .exit))) ≡ runsInC (runsIn (now (places .entry))) (ofRanges ranges) ⌝ }
+{
+    match ranges {
+        Ranges::Runs { front, back } => {
+            store_runs(places, front, back);
+            0
+        }
+        Ranges::Refused(refusal) => answers::number_of(refusal),
     }
 }

@@ -3,12 +3,15 @@
 use drains::Drain;
 use places::WrappedIndex;
 use queue::Deque;
+use runs::Span;
 use walks::Walk;
 ghost use mathlib.Core.Path.{_≡_};
 ghost use Rattle.queue.specs.Answers.{recOf};
 ghost use Rattle.drains.specs.Answers.{drainOf};
+ghost use Rattle.runs.specs.Answers.{spanOf};
+ghost use Rattle.rules.specs.Runs.{twoRuns};
 ghost use Rattle.walks.specs.Answers.{walkOf};
-ghost use Rattle.replies.specs.Records.{recIn, drainIn, walkIn};
+ghost use Rattle.replies.specs.Records.{recIn, drainIn, walkIn, runsIn};
 
 // The record of a queue.
 pub fn deque_in(q: &[usize; 2]) -> Deque
@@ -78,4 +81,11 @@ pub fn store_walk(w: &mut [usize; 4], walk: Walk)
     let queue = walk.queue;
     let head = queue.head;
     *w = [head.as_index(), queue.len, walk.low, walk.high];
+}
+
+// Stores the places of two runs.
+pub fn store_runs(places: &mut [usize; 4], front: Span, back: Span)
+    ensures { λ _. ⌜ runsIn (now (places .exit)) ≡ twoRuns (spanOf front) (spanOf back) ⌝ }
+{
+    *places = [front.start, front.end, back.start, back.end];
 }

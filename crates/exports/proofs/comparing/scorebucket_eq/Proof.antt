@@ -1,9 +1,16 @@
 -- `exports::comparing::scorebucket_eq` meets its contract. Assumes nothing.
-use Rattle.exports.proofs.Crossing.{crosses}
+use Rattle.exports.proofs.Crossing.{both-look}
 use Rattle.replies.specs.InC.{truthInC}
+use Rattle.rules.specs.Looks.{same}
 use borrow.Author.Needs.{needs}
 use Rattle.exports.proofs.comparing.scorebucket_eq.Statement.{statement}
 use Rattle.exports.proofs.comparing.scorebucket_eq.Tie as tie
+
+deque-in-requires : tie.Need-deque-in-requires
+deque-in-requires c κs = search needs
+
+deque-in-requires-2 : tie.Need-deque-in-requires-2
+deque-in-requires-2 c κs = search needs
 
 eq-requires : tie.Need-eq-requires
 eq-requires c κs = search needs
@@ -12,7 +19,9 @@ of-truth-requires : tie.Need-of-truth-requires
 of-truth-requires c κs = search needs
 
 returns : tie.Need-returns
-returns c = crosses truthInC _ _ _ (c .of-truth .ensures) (c .before .eq .ensures)
+returns c = both-look truthInC _ _ _ _ _ _ _ _ same (c .before .before .before .deque-in .ensures) (c .before .before .deque-in2 .ensures) (c .of-truth .ensures) (c .before .eq .ensures)
 
 pub scorebucket-eq-spec : {M : Type 1} → statement M
-scorebucket-eq-spec = tie.close (tie.spec eq-requires of-truth-requires returns)
+scorebucket-eq-spec =
+    tie.close
+    (tie.spec deque-in-requires deque-in-requires-2 eq-requires of-truth-requires returns)

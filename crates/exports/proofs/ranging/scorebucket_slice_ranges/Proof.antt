@@ -8,12 +8,11 @@ use Rattle.exports.proofs.ranging.scorebucket_slice_ranges.Tie as tie
 slice-ranges-requires : tie.Need-slice-ranges-requires
 slice-ranges-requires c κs = search needs
 
-of-ranges-requires : tie.Need-of-ranges-requires
-of-ranges-requires c κs = search needs
+ranged-requires : tie.Need-ranged-requires
+ranged-requires c κs = search needs
 
 returns : tie.Need-returns
-returns c = crosses runsInC _ _ _ (c .of-ranges .ensures) (c .before .slice-ranges .ensures)
+returns c = crosses (runsInC _) _ _ _ (c .ranged .ensures) (c .before .slice-ranges .ensures)
 
 pub scorebucket-slice-ranges-spec : {M : Type 1} → statement M
-scorebucket-slice-ranges-spec =
-    tie.close (tie.spec slice-ranges-requires of-ranges-requires returns)
+scorebucket-slice-ranges-spec = tie.close (tie.spec slice-ranges-requires ranged-requires returns)
