@@ -184,7 +184,7 @@ struct scorebucket_reply scorebucket_splice(uint32_t *slots, size_t cap, struct 
 
 /* ---- runs and walks */
 
-/* Gives the two runs of positions start..end: the elements of `front`, then those of `back`, as parts of the slots. Refusal: 3. */
+/* Stores the two runs of positions start..end: the elements of `front`, then those of `back`, as parts of the slots. Gives the refusal number, or 0; refused, `runs` is as it was. Refusal: 3. */
 size_t scorebucket_slice_ranges(const uint32_t *slots, size_t cap, struct scorebucket_deque q, size_t start, size_t end, struct scorebucket_runs *runs);
 /* Begins a walk over the whole list. Gives the refusal number, or 0. */
 size_t scorebucket_begin_walk(const uint32_t *slots, size_t cap, const struct scorebucket_deque *q, struct scorebucket_walk *w);

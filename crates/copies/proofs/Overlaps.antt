@@ -16,6 +16,7 @@ pub dst-wraps : (cap s d n : ℕ) → OneWraps cap s d n → s < cap → d < cap
 unfolding OneWraps
 dst-wraps cap s d n w hs hd fits = omega arith
 
+-- it is enough that one does
 pub src-past : (cap s d n : ℕ) → cap - s < n → OneWraps cap s d n
 unfolding OneWraps
 src-past cap s d n past = omega arith

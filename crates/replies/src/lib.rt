@@ -1,7 +1,7 @@
 // The answers of the calls as a caller from C or Rust gets them: his record, changed where it stands, and a flat struct of plain numbers, in which every field is set.
 mod changes; // changes.rt: calls that change a list or a record
 mod looks; // looks.rt: calls that only look
-mod opens; // opens.rt: drains and walks
+mod opens; // opens.rt: drains, walks and the places of runs
 mod records; // records.rt: the records as numbers in the caller's memory
 
 pub use changes::Reply;
