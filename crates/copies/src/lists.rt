@@ -5,23 +5,34 @@ use stretches::copy_in;
 use stretches::copy_in_reversed;
 use stretches::fill;
 ghost use mathlib.Core.Path.{_≡_};
-ghost use Prim.Native.Nat.{_≤_, _<_};
+ghost use Prim.Native.Nat.{_-_, _≤_, _<_};
 ghost use mathlib.Core.List.{reverse};
 ghost use lib.ListN.{length, replicate};
+ghost use Rattle.rules.specs.Refusals.{mostSlots};
 ghost use Rattle.rules.specs.Slots.{lay};
 
-// Copies src into the slots from dst on.
-pub fn copy_slice(slots: &mut [u32], dst: WrappedIndex, src: &[u32])
-    requires { ⌜ (dst .0 < length (now slots)) × (length (now src) ≤ length (now slots)) ⌝ }
+// Copies src into the slots from dst on, where it runs past the last slot.
+fn copy_slice_apart(slots: &mut [u32], dst: WrappedIndex, src: &[u32])
+    requires { ⌜ (dst .0 < length (now slots)) × (length (now src) ≤ length (now slots)) × (length (now slots) ≤ mostSlots) ⌝ }
+    requires { ⌜ length (now slots) - dst .0 < length (now src) ⌝ }
     ensures { λ _. ⌜ now (slots .exit) ≡ lay (now (slots .entry)) (dst .0) (now (src .entry)) ⌝ }
 {
     let w = dst.as_index();
     let head_room = slots.len() - w;
-    if src.len() <= head_room {
+    copy_in(&mut slots[w..], &src[..head_room]);
+    copy_in(slots, &src[head_room..]);
+}
+
+// Copies src into the slots from dst on.
+pub fn copy_slice(slots: &mut [u32], dst: WrappedIndex, src: &[u32])
+    requires { ⌜ (dst .0 < length (now slots)) × (length (now src) ≤ length (now slots)) × (length (now slots) ≤ mostSlots) ⌝ }
+    ensures { λ _. ⌜ now (slots .exit) ≡ lay (now (slots .entry)) (dst .0) (now (src .entry)) ⌝ }
+{
+    let w = dst.as_index();
+    if src.len() <= slots.len() - w {
         copy_in(&mut slots[w..], src);
     } else {
-        copy_in(&mut slots[w..], &src[..head_room]);
-        copy_in(slots, &src[head_room..]);
+        copy_slice_apart(slots, dst, src);
     }
 }
 

@@ -29,6 +29,14 @@ joinedHead cap h s r k t = whether (eqb k 0) h (whether (ltb (s + r) t) (place c
 unfoldable pub joinedMoved : ℕ → ℕ → ℕ → ℕ → ℕ
 joinedMoved s r k t = whether (eqb k 0) 0 (whether (ltb (s + r) t) s t)
 
+-- the side that moves to close a hole of k behind s elements and room for r, in front of the last t: m elements from slot p on, which go to slot q, and head is h′ then.
+-- If s + r < t, it is the earlier side, which goes on by k, and head with it; otherwise the tail, which goes back by k
+pub record SideMoves (cap h s r k t p q m h′ : ℕ) : Type 0 where
+  pub from : p ≡ whether (ltb (s + r) t) h (place cap h (s + r + k))
+  pub to : q ≡ whether (ltb (s + r) t) (place cap h k) (place cap h (s + r))
+  pub many : m ≡ whether (ltb (s + r) t) s t
+  pub head : h′ ≡ whether (ltb (s + r) t) (place cap h k) h
+
 -- a hole of k behind s elements and room for r, in front of the last t, is closed: head has gone from h to h′, and m elements moved
 pub record HoleClosed (b b′ : List ℕ) (h s r k t h′ m : ℕ) : Type 0 where
   pub head : h′ ≡ joinedHead (length b) h s r k t

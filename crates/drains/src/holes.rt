@@ -8,7 +8,7 @@ ghost use Rattle.rules.specs.Places.{place};
 ghost use Rattle.rules.specs.Refusals.{mostSlots};
 ghost use Rattle.rules.specs.Slots.{copied};
 ghost use Rattle.rules.specs.Tests.{whether};
-ghost use Rattle.drains.specs.Holes.{HoleClosed};
+ghost use Rattle.drains.specs.Holes.{HoleClosed, SideMoves};
 
 // Where a queue begins once its hole is closed, and how many elements moved for it.
 pub struct Joined {
@@ -27,10 +27,58 @@ pub fn move_elements(slots: &mut [u32], head: WrappedIndex, from: usize, to: usi
     copies::wrap_copy(slots, src, dst, n);
 }
 
-// Closes a hole. In front of it stand `start` elements, and room for `new` ones, which the caller lays once the hole is closed; behind it stand
-// `tail`. Since the new ones go straight to their place, only `start` elements move where the earlier side does.
+// The side of a hole that moves: `n` elements, which stand from `src` on and go to `dst`; then the queue begins at `head`.
+struct Side {
+    src: WrappedIndex,
+    dst: WrappedIndex,
+    n: usize,
+    head: WrappedIndex,
+}
+
+// The shorter side of a hole that `close_hole` closes.
 //
 // H = head, h = the first elements, n = room for the new ones, d = the hole, t = the tail
+fn shorter_side(
+    cap: usize,
+    head: WrappedIndex,
+    start: usize,
+    new: usize,
+    hole: usize,
+    tail: usize,
+) -> Side
+    requires { ⌜ (head .0 < cap) × (start + new + hole + tail ≤ cap) × (cap ≤ mostSlots) ⌝ }
+    ensures { λ r. ⌜ SideMoves cap (head .0) start new hole tail (r .src .0) (r .dst .0) (r .n) (r .head .0) ⌝ }
+{
+    let before = start + new;
+    if before < tail {
+        // The earlier side is the shorter: it moves, and the head with it.
+        //       H
+        // [ . . h h n d d d t t t t . . ]
+        //             H
+        // [ . . . . . h h n t t t t . . ]
+        let next = places::wrap_add(cap, head, hole);
+        return Side {
+            src: head,
+            dst: next,
+            n: start,
+            head: next,
+        };
+    }
+    // The tail is the shorter, or both are as long: it moves, and the head stays.
+    //       H
+    // [ . . h h h n d d d t t . . . ]
+    //       H
+    // [ . . h h h n t t . . . . . . ]
+    Side {
+        src: places::wrap_add(cap, head, before + hole),
+        dst: places::wrap_add(cap, head, before),
+        n: tail,
+        head,
+    }
+}
+
+// Closes a hole. In front of it stand `start` elements, and room for `new` ones, which the caller lays once the hole is closed; behind it stand
+// `tail`. Since the new ones go straight to their place, only `start` elements move where the earlier side does.
 pub fn close_hole(
     slots: &mut [u32],
     head: WrappedIndex,
@@ -45,26 +93,14 @@ pub fn close_hole(
     if hole == 0 {
         return Joined { head, moved: 0 };
     }
-    if start + new < tail {
-        // The earlier side is the shorter: it moves, and the head with it.
-        //       H
-        // [ . . h h n d d d t t t t . . ]
-        //             H
-        // [ . . . . . h h n t t t t . . ]
-        let next = places::wrap_add(slots.len(), head, hole);
-        move_elements(slots, head, 0, hole, start);
-        return Joined {
-            head: next,
-            moved: start,
-        };
-    }
-    // The tail is the shorter, or both are as long: it moves, and the head stays.
-    //       H
-    // [ . . h h h n d d d t t . . . ]
-    //       H
-    // [ . . h h h n t t . . . . . . ]
-    move_elements(slots, head, start + new + hole, start + new, tail);
-    Joined { head, moved: tail }
+    // one call for either side, so that the copy stands in the closing itself when it is compiled
+    let side = shorter_side(slots.len(), head, start, new, hole, tail);
+    let src = side.src;
+    let dst = side.dst;
+    let next = side.head;
+    let moved = side.n;
+    copies::wrap_copy(slots, src, dst, moved);
+    Joined { head: next, moved }
 }
 
 // The head of a queue of `len` elements: the first slot if nothing remains.

@@ -5,36 +5,52 @@ use places::WrappedIndex;
 use queue::Checked;
 use queue::Deque;
 use queue::Refusal;
+ghost use mathlib.Core.Bool.{true};
 ghost use mathlib.Core.Path.{_≡_};
 ghost use Prim.Native.Nat.{_+_, _<_, _≤_};
 ghost use Rattle.rules.specs.Drains.{goodDrain, onDrain, opened, fromFront, fromBack};
+ghost use Rattle.rules.specs.Refusals.{goodHead};
 ghost use Rattle.queue.specs.Answers.{recOf, numberIn};
 ghost use Rattle.drains.specs.Answers.{drainOf};
 ghost use Rattle.drains.specs.Holes.{shutFrom};
 
-// Whether the drain's record is good for so many slots. Its numbers may be any: no sum is made before it is known to fit.
+// Whether the parts of the drain's queue fit so many slots and what remains lies in the drained range, where the head is good. The numbers may be any: no sum
+// is made before it is known to fit.
+fn good_parts(cap: usize, d: Drain) -> bool
+    requires { ⌜ goodHead cap (d .head .0) ≡ true ⌝ }
+    ensures { λ r. ⌜ r ≡ goodDrain cap (drainOf d) ⌝ }
+{
+    if d.start <= cap {
+        let behind_start = cap - d.start;
+        if d.drain_len <= behind_start {
+            if d.tail_len <= behind_start - d.drain_len {
+                if d.start <= d.idx {
+                    let handed = d.idx - d.start;
+                    if handed <= d.drain_len {
+                        return d.remaining <= d.drain_len - handed;
+                    }
+                }
+            }
+        }
+    }
+    false
+}
+
+// Whether the drain's record is good for so many slots.
 fn good_drain(cap: usize, d: Drain) -> bool
     ensures { λ r. ⌜ r ≡ goodDrain cap (drainOf d) ⌝ }
 {
-    if queue::good_head(cap, d.head) {
-        if d.start > cap {
-            return false;
+    let head = d.head;
+    let h = head.as_index();
+    // the common case, by one test
+    if h < cap {
+        return good_parts(cap, d);
+    }
+    // no slot at all
+    if cap == 0 {
+        if h == 0 {
+            return good_parts(cap, d);
         }
-        let behind_start = cap - d.start;
-        if d.drain_len > behind_start {
-            return false;
-        }
-        if d.tail_len > behind_start - d.drain_len {
-            return false;
-        }
-        if d.idx < d.start {
-            return false;
-        }
-        let handed = d.idx - d.start;
-        if handed > d.drain_len {
-            return false;
-        }
-        return d.remaining <= d.drain_len - handed;
     }
     false
 }

@@ -84,11 +84,13 @@ appends b r b′ r′ e =
 -- of `split_off`
 pub record Splits (b : List ℕ) (r : Rec) (b′ : List ℕ) (p : ℕ) : Type 0 where
   pub ours : onQueue (length b) r 0 ≡ 0
+  pub few : length b′ ≤ mostSlots
   pub within : p ≤ r .len
   pub fits : r .len - p ≤ length b′
 
 pub splits : (b : List ℕ) (r : Rec) (b′ : List ℕ) (p : ℕ) → onSplitting (length b) r (length b′) p ≡ 0 → Splits b r b′ p
 unfolding onSplitting
 splits b r b′ p e =
-    let k = passed (leb p (r .len)) 2 _ (slots-ok (length b′) _ (queue-ok (length b) r _ e .1) .1) in
-    record { ours = passed-first (length b) r _ e; within = leb→le p (r .len) (k .0); fits = room-ok _ _ (k .1) }
+    let target = slots-ok (length b′) _ (queue-ok (length b) r _ e .1) in
+    let k = passed (leb p (r .len)) 2 _ (target .1) in
+    record { ours = passed-first (length b) r _ e; few = target .0; within = leb→le p (r .len) (k .0); fits = room-ok _ _ (k .1) }

@@ -1,54 +1,63 @@
 -- The two runs of a queue, copied one behind the other into other slots. Assumes nothing.
-use mathlib.Core.List.{List, _++_}
-use mathlib.Core.Path.{_≡_, _∙_, sym, ap}
-use Prim.Native.Nat.{ℕ, _≤_, _-_, _+_, _<_}
+use mathlib.Core.List.{List}
+use mathlib.Core.Path.{_≡_, _∙_, sym, ap, refl}
+use Prim.Native.Nat.{ℕ, _+_, _≤_, _-_, _<_}
 use native.Mathlib.Omega.{arith}
-use borrow.Author.Tests.{le-leb}
-use lib.ListN.{length, drop, length-drop, length-append}
-use lib.Seq.{take-all}
-use Rattle.rules.proofs.Held.{length-held}
+use lib.ListN.{length, take, drop, length-take, length-drop}
 use Rattle.rules.proofs.Places.{place-low}
-use Rattle.rules.proofs.Refusals.{queue-go}
-use Rattle.rules.proofs.Ring.{write-append}
-use Rattle.rules.proofs.Slots.{length-lay}
+use Rattle.rules.proofs.Refusals.{queue-ok}
+use Rattle.rules.proofs.Ring.{write-append, read-straight}
+use Rattle.rules.proofs.Slots.{length-lay, listOf-drop}
 use Rattle.rules.specs.Places.{place}
 use Rattle.rules.specs.Records.{Rec, held}
-use Rattle.rules.specs.Refusals.{onQueue, inRange, onRange}
-use Rattle.rules.specs.Runs.{frontRun, backRun}
-use Rattle.rules.specs.Slots.{lay}
-use Rattle.rules.specs.Tests.{ask}
-use Rattle.runs.proofs.Whole.{runs-range}
+use Rattle.rules.specs.Refusals.{onQueue, mostSlots}
+use Rattle.rules.specs.Slots.{lay, listOf}
+use Rattle.runs.proofs.Whole.{read-round}
 
--- the two runs of the positions from s on of a good queue r in the slots b
-pub record Runs (b : List ℕ) (r : Rec) (s : ℕ) (front back : List ℕ) : Type 0 where
-  pub good : onQueue (length b) r 0 ≡ 0
-  pub within : s ≤ r .len
-  pub is-front : front ≡ frontRun b r s (r .len)
-  pub is-back : back ≡ backRun b r s (r .len)
+-- The elements of a good queue from position s on, of which there are some.
+module _ (b : List ℕ) (r : Rec) (s : ℕ) (good : onQueue (length b) r 0 ≡ 0) (within : s < r .len) where
+  -- their first place is a slot's
+  pub first-in-slots : place (length b) (r .head) s < length b
+  first-in-slots = let g = queue-ok (length b) r 0 good .0 in place-low (length b) (r .head) (omega arith) s (omega arith)
 
-module _ {b : List ℕ} {r : Rec} {s : ℕ} {front back : List ℕ} (k : Runs b r s front back) where
-  -- one behind the other they are what stands there
-  joined : front ++ back ≡ drop s (held b r)
-  unfolding onRange inRange ask
-  joined =
-      rw (k .is-front, k .is-back)
-      (runs-range b r s (r .len) (queue-go (length b) r _ (k .good) ∙ rw (le-leb s (r .len) (k .within), le-leb (r .len) (r .len) (omega arith)))
-      ∙ take-all (r .len - s) (drop s (held b r)) (omega (arith, length-drop s (held b r), length-held b r)))
+  -- they are those that stand from there on
+  pub later-held : listOf b (place (length b) (r .head) s) (r .len - s) ≡ drop s (held b r)
+  unfolding held
+  later-held = let g = queue-ok (length b) r 0 good .0 in sym (listOf-drop b (r .head) (omega arith) s (r .len) (omega arith) (omega arith))
 
-  -- and as long
-  pub as-long : length front + length back ≡ r .len - s
-  as-long = sym (length-append front back) ∙ ap length joined ∙ length-drop s (held b r) ∙ ap (λ (n : ℕ). n - s) (length-held b r)
+  -- and the slots from there on, where they end before the slots do
+  pub later-straight : (w e : ℕ) → w ≡ place (length b) (r .head) s → r .len - s ≤ length b - w → e ≡ w + (r .len - s) → take (e - w) (drop w b) ≡ drop s (held b r)
+  later-straight w e at-w room at-e =
+      let many : e - w ≡ r .len - s = omega arith in
+      let fits : w + (r .len - s) ≤ length b = omega (arith, first-in-slots) in
+      rw many (sym (read-straight (length b) b w (r .len - s) refl fits)) ∙ ap (λ (w : ℕ). listOf b w (r .len - s)) at-w ∙ later-held
+
+-- The n elements from place w on, which run past the last slot.
+module _ (b : List ℕ) (w n : ℕ) (in-slots : w < length b) (over : length b - w < n) (few : n ≤ length b) where
+  -- those up to the last slot
+  abbrev front : List ℕ
+  front = take (length b - w) (drop w b)
+
+  -- the rest
+  abbrev back : List ℕ
+  back = take (n - (length b - w)) b
+
+  long-front : length front ≡ length b - w
+  long-front = simp (length-take, length-drop) (omega arith)
+
+  long-back : length back ≡ n - (length b - w)
+  long-back = simp (length-take) (omega arith)
 
   -- The front run was copied into the slots b′ from d on. p is the place behind it.
-  module _ (b′ : List ℕ) (d p : ℕ) (b₁ : List ℕ) (in-ring : d < length b′) (fits : r .len - s ≤ length b′) (at-p : p ≡ place (length b′) d (length front)) (laid : b₁ ≡ lay b′ d front) where
+  module _ (b′ : List ℕ) (d p : ℕ) (b₁ : List ℕ) (in-ring : d < length b′) (fits : n ≤ length b′) (at-p : p ≡ place (length b′) d (length b - w)) (laid : b₁ ≡ lay b′ d front) where
     -- the back run can be copied to there
-    pub back-fits : (p < length b₁) × (length back ≤ length b₁)
-    back-fits =
+    pub back-fits : length b′ ≤ mostSlots → (p < length b₁) × (length back ≤ length b₁) × (length b₁ ≤ mostSlots)
+    back-fits few′ =
         let same : length b₁ ≡ length b′ = ap length laid ∙ length-lay b′ d front in
-        let n = as-long in
-        (omega (arith, place-low (length b′) d in-ring (length front) (omega arith)), omega arith)
+        (omega (arith, place-low (length b′) d in-ring (length b - w) (omega arith)), omega (arith, long-back), omega arith)
 
     -- and then all stand from d on
-    pub both-laid : (b₂ : List ℕ) → b₂ ≡ lay b₁ p back → b₂ ≡ lay b′ d (drop s (held b r))
+    pub both-laid : (b₂ : List ℕ) → b₂ ≡ lay b₁ p back → b₂ ≡ lay b′ d (listOf b w n)
     both-laid b₂ then-laid =
-        then-laid ∙ rw (laid, at-p, length-lay) (sym (write-append (length b′) b′ d front back in-ring (omega (arith, as-long)))) ∙ ap (lay b′ d) joined
+        let behind : p ≡ place (length b′) d (length front) = at-p ∙ ap (place (length b′) d) (sym long-front) in
+        then-laid ∙ rw (laid, behind, length-lay) (sym (write-append (length b′) b′ d front back in-ring (omega (arith, long-front, long-back)))) ∙ ap (lay b′ d) (sym (read-round b w n in-slots over few))

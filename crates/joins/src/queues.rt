@@ -10,8 +10,8 @@ ghost use Prim.Native.Nat.{_-_, _≤_, _<_};
 ghost use lib.ListN.{length, drop};
 ghost use Rattle.rules.specs.Pairs.{onAppending, onSplitting, doAppend, doSplit, toldPairing};
 ghost use Rattle.rules.specs.Records.{held};
-ghost use Rattle.rules.specs.Refusals.{onQueue};
-ghost use Rattle.rules.specs.Slots.{lay};
+ghost use Rattle.rules.specs.Refusals.{onQueue, mostSlots};
+ghost use Rattle.rules.specs.Slots.{lay, listOf};
 ghost use Rattle.queue.specs.Answers.{recOf, numberIn};
 ghost use Rattle.joins.specs.Answers.{ofJoined, ofSplit};
 
@@ -52,19 +52,41 @@ fn check_split(cap: usize, q: Deque, target_cap: usize, at: usize) -> Checked
     Checked::Good
 }
 
-// Copies a queue's elements from position `start` on into other slots from `dst` on: the front run, and behind it the back run.
-fn copy_runs(slots: &mut [u32], dst: WrappedIndex, from: &[u32], q: Deque, start: usize)
+// Copies the `n` elements that stand from `first` on, past the last slot, into other slots from `dst` on: the front run, and behind it the back run.
+fn copy_runs_apart(
+    slots: &mut [u32],
+    dst: WrappedIndex,
+    from: &[u32],
+    first: WrappedIndex,
+    n: usize,
+)
+    requires { ⌜ (first .0 < length (now from)) × (length (now from) - first .0 < n) × (n ≤ length (now from)) ⌝ }
+    requires { ⌜ (dst .0 < length (now slots)) × (n ≤ length (now slots)) × (length (now slots) ≤ mostSlots) ⌝ }
+    ensures { λ _. ⌜ now (slots .exit) ≡ lay (now (slots .entry)) (dst .0) (listOf (now (from .entry)) (first .0) n) ⌝ }
+{
+    let at = first.as_index();
+    let front = from.len() - at;
+    let behind = places::wrap_add(slots.len(), dst, front);
+    copies::copy_slice(slots, dst, &from[at..]);
+    copies::copy_slice(slots, behind, &from[..n - front]);
+}
+
+// Copies a queue's elements from position `start` on into other slots from `dst` on.
+fn copy_later(slots: &mut [u32], dst: WrappedIndex, from: &[u32], q: Deque, start: usize)
     requires { ⌜ onQueue (length (now from)) (recOf q) 0 ≡ 0 ⌝ }
-    requires { ⌜ (start ≤ q .len) × (q .len - start ≤ length (now slots)) × (dst .0 < length (now slots)) ⌝ }
+    requires { ⌜ (start < q .len) × (q .len - start ≤ length (now slots)) × (dst .0 < length (now slots)) × (length (now slots) ≤ mostSlots) ⌝ }
     ensures { λ _. ⌜ now (slots .exit) ≡ lay (now (slots .entry)) (dst .0) (drop start (held (now (from .entry)) (recOf q))) ⌝ }
 {
-    let cap = slots.len();
-    let end = q.len;
-    let front = runs::front_run(from, q, start, end);
-    let back = runs::back_run(from, q, start, end);
-    let behind = places::wrap_add(cap, dst, front.len());
-    copies::copy_slice(slots, dst, front);
-    copies::copy_slice(slots, behind, back);
+    let n = q.len - start;
+    let head = q.head;
+    let first = places::wrap_add(from.len(), head, start);
+    let at = first.as_index();
+    if n <= from.len() - at {
+        let end = at + n;
+        copies::copy_slice(slots, dst, &from[at..end]);
+    } else {
+        copy_runs_apart(slots, dst, from, first, n);
+    }
 }
 
 // Copies the other queue's elements behind ours, and empties the other.
@@ -91,7 +113,7 @@ pub fn append(slots: &mut [u32], q: Deque, other_slots: &[u32], other: Deque) ->
     }
     let len = q.len;
     let head = q.head;
-    copy_runs(
+    copy_later(
         slots,
         places::wrap_add(cap, head, len),
         other_slots,
@@ -127,7 +149,7 @@ pub fn split_off(slots: &[u32], q: Deque, at: usize, target: &mut [u32]) -> Spli
             moved: 0,
         };
     }
-    copy_runs(target, WrappedIndex::zero(), slots, q, at);
+    copy_later(target, WrappedIndex::zero(), slots, q, at);
     Split::Done {
         queue: kept,
         target: made,

@@ -12,6 +12,7 @@ ghost use Rattle.rules.specs.Conditions.{meets, those};
 ghost use Rattle.rules.specs.Middle.{retain};
 ghost use Rattle.rules.specs.Outcome.{told, doRule};
 ghost use Rattle.rules.specs.Places.{place};
+ghost use Rattle.rules.specs.Refusals.{mostSlots};
 ghost use Rattle.rules.specs.Slots.{listOf, lay};
 ghost use Rattle.conditions.specs.Tests.{testOf};
 ghost use Rattle.queue.specs.Answers.{recOf, ofChange};
@@ -85,7 +86,7 @@ fn move_part(
     test: Test,
     held: &mut [u32],
 ) -> usize
-    requires { ⌜ (from + n ≤ length (now slots)) × (n ≤ length (now held)) × (into .0 < length (now slots)) ⌝ }
+    requires { ⌜ (from + n ≤ length (now slots)) × (n ≤ length (now held)) × (into .0 < length (now slots)) × (length (now slots) ≤ mostSlots) ⌝ }
     ensures { λ r. ⌜ r ≡ length (those (meets (testOf test)) (listOf (now (slots .entry)) from n)) ⌝ }
     ensures { λ _. ⌜ now (slots .exit) ≡ lay (now (slots .entry)) (into .0) (those (meets (testOf test)) (listOf (now (slots .entry)) from n)) ⌝ }
 {
@@ -115,7 +116,7 @@ fn least(a: usize, b: usize, c: usize) -> usize
 // Stage 2: of the `len` elements behind `to`, T, stores those that meet the test from there on, and counts them. It goes part by part, none of
 // which runs past the last slot. A part's kept are no more than its elements, so they never reach what is still to be read.
 fn move_kept(slots: &mut [u32], to: WrappedIndex, len: usize, test: Test) -> usize
-    requires { ⌜ (to .0 < length (now slots)) × (len < length (now slots)) ⌝ }
+    requires { ⌜ (to .0 < length (now slots)) × (len < length (now slots)) × (length (now slots) ≤ mostSlots) ⌝ }
     ensures { λ r. ⌜ r ≡ length (those (meets (testOf test)) (listOf (now (slots .entry)) (place (length (now (slots .entry))) (to .0) 1) len)) ⌝ }
     ensures { λ _. ⌜ now (slots .exit) ≡ lay (now (slots .entry)) (to .0) (those (meets (testOf test)) (listOf (now (slots .entry)) (place (length (now (slots .entry))) (to .0) 1) len)) ⌝ }
 {

@@ -22,6 +22,16 @@ use Rattle.rules.specs.Slots.{read}
 use Rattle.rules.specs.Tests.{ask}
 use Rattle.runs.proofs.Cases.{by-runs}
 
+-- elements that go on from slot 0: those up to the last slot, and behind them the rest from the first slot on
+pub read-round : (b : List ℕ) (w n : ℕ) → w < length b → length b - w < n → n ≤ length b → read (length b) b w n ≡ take (length b - w) (drop w b) ++ take (n - (length b - w)) b
+read-round b w n in-slots over fits =
+    let cap = length b in
+    let rest = n - (cap - w) in
+    let back : place cap w (cap - w) ≡ 0 = wrapped-high cap (w + (cap - w)) (omega arith) ∙ omega arith in
+    let parts : n ≡ cap - w + rest = omega arith in
+    ap (read cap b w) parts ∙ read-add cap b w (cap - w) rest in-slots (omega arith)
+    ∙ rw (back, read-straight cap b w (cap - w) refl (omega arith), read-straight cap b 0 rest refl (omega arith))
+
 -- one run behind the other
 abbrev joined : List ℕ → TwoRuns → List ℕ
 joined b t = part b (t .front) ++ part b (t .back)
@@ -40,13 +50,7 @@ module _ (b : List ℕ) (h s e : ℕ) (good : h ≤ length b - 1) (le : s ≤ e)
       (λ differ room.
       let long : w + (e - s) - w ≡ e - s = omega arith in
       append-nil _ ∙ ap (λ (k : ℕ). take k (drop w b)) long ∙ sym (read-straight cap b w (e - s) refl (omega (arith, in-ring differ))))
-      (λ differ over.
-      let k = in-ring differ in
-      let rest = e - s - (cap - w) in
-      let back : place cap w (cap - w) ≡ 0 = wrapped-high cap (w + (cap - w)) (omega arith) ∙ omega arith in
-      let parts : e - s ≡ cap - w + rest = omega arith in
-      sym (ap (read cap b w) parts ∙ read-add cap b w (cap - w) rest k (omega arith)
-      ∙ rw (back, read-straight cap b w (cap - w) refl (omega arith), read-straight cap b 0 rest refl (omega arith), sub-zero rest)))
+      (λ differ over. rw (sub-zero (e - s - (cap - w))) (sym (read-round b w (e - s) (in-ring differ) over (omega arith))))
 
 module _ (b : List ℕ) (r : Rec) where
   -- an accepted range: its runs are the range's elements, in order

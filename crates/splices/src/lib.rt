@@ -42,7 +42,7 @@ fn make_room(
 
 // Lays the values behind the first `start` elements.
 fn fill(slots: &mut [u32], head: WrappedIndex, start: usize, values: &[u32])
-    requires { ⌜ (head .0 ≤ length (now slots) - 1) × (start + length (now values) ≤ length (now slots)) ⌝ }
+    requires { ⌜ (head .0 ≤ length (now slots) - 1) × (start + length (now values) ≤ length (now slots)) × (length (now slots) ≤ mostSlots) ⌝ }
     ensures { λ _. ⌜ now (slots .exit) ≡ lay (now (slots .entry)) (place (length (now (slots .entry))) (head .0) start) (now (values .entry)) ⌝ }
 {
     if values.len() == 0 {

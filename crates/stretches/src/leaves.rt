@@ -4,6 +4,7 @@ ghost use mathlib.Core.Path.{_≡_};
 ghost use Prim.Native.Nat.{_≤_};
 ghost use mathlib.Core.List.{reverse};
 ghost use lib.ListN.{length, replicate};
+ghost use Rattle.rules.specs.Refusals.{mostSlots};
 ghost use Rattle.rules.specs.Slots.{lay};
 
 // Copies src into the first slots of dst, one by one.
@@ -18,19 +19,15 @@ pub fn copy_front(dst: &mut [u32], src: &[u32])
     }
 }
 
-// Copies src into the first slots of dst, through a local array where src is short enough.
+// Copies src, which is no longer than a queue may be, into the first slots of dst through a local array: compiled, it is one memmove.
 pub fn copy_in(dst: &mut [u32], src: &[u32])
-    requires { ⌜ length (now src) ≤ length (now dst) ⌝ }
+    requires { ⌜ (length (now src) ≤ length (now dst)) × (length (now src) ≤ mostSlots) ⌝ }
     ensures { λ _. ⌜ now (dst .exit) ≡ lay (now (dst .entry)) 0 (now (src .entry)) ⌝ }
 {
     let n = src.len();
-    if n <= HELD {
-        let mut held = [0u32; HELD];
-        copy_front(&mut held, src);
-        copy_front(dst, &held[0..n]);
-    } else {
-        copy_front(dst, src);
-    }
+    let mut held = [0u32; HELD];
+    copy_front(&mut held, src);
+    copy_front(dst, &held[0..n]);
 }
 
 // Copies src into the first slots of dst, its last element first.

@@ -37,7 +37,7 @@ wrap-add-requires : tie.Need-wrap-add-requires
 wrap-add-requires c κs = let m = past (c .before .before .before) in omega arith
 
 copy-slice-requires : tie.Need-copy-slice-requires
-copy-slice-requires c κs = let m = past (c .before .before .before .before) in (place-in _ _ _ _ (c .wrap-add .ensures) (omega arith) (omega arith), omega arith)
+copy-slice-requires c κs = let m = past (c .before .before .before .before) in (place-in _ _ _ _ (c .wrap-add .ensures) (omega arith) (omega arith), omega arith, m .ok .few)
 
 stepped-requires : tie.Need-stepped-requires
 stepped-requires c κs = search needs

@@ -34,7 +34,10 @@ stepped-back-requires : tie.Need-stepped-back-requires
 stepped-back-requires c κs = let m = past (c .before) in (omega arith, omega arith, omega arith)
 
 copy-slice-requires : tie.Need-copy-slice-requires
-copy-slice-requires c κs = front-fits _ _ (now (c .before .before .before .before .before .before .before .before .args .values)) (past (c .before .before .before)) (c .before .before .if1 .left) _ (c .before .stepped-back .ensures)
+copy-slice-requires c κs =
+    let m = past (c .before .before .before) in
+    let k = front-fits _ _ (now (c .before .before .before .before .before .before .before .before .args .values)) m (c .before .before .if1 .left) _ (c .before .stepped-back .ensures) in
+    (k .0, k .1, m .ok .few)
 
 same-length : tie.Need-same-length
 same-length c = search needs

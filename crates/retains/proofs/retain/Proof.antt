@@ -63,7 +63,7 @@ sub-move-kept-2 : tie.Need-sub-move-kept-2
 sub-move-kept-2 c = let u = upto (c .before .before .before) in omega arith
 
 move-kept-requires : tie.Need-move-kept-requires
-move-kept-requires c κs = let g = ok (c .before .before .before .before .before .before) .good in let u = upto (c .before .before .before) in let k = slot (c .before) in omega arith
+move-kept-requires c κs = let f = ok (c .before .before .before .before .before .before) in let g = f .good in let u = upto (c .before .before .before) in let k = slot (c .before) in omega arith
 
 add-stepped : tie.Need-add-stepped
 add-stepped c =

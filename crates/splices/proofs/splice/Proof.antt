@@ -54,7 +54,8 @@ make-room-requires c κs = let g = ok (c .before .before .before .before .before
 fill-requires : tie.Need-fill-requires
 fill-requires c κs =
     let a = c .before .before .before .before .before .before .before .before .before .before .before .before .before .before .before .args in
-    let g = ok (c .before .before .before .before .before .before .before .before .before .before) .good in
+    let f = ok (c .before .before .before .before .before .before .before .before .before .before) in
+    let g = f .good in
     let e = c .before .before .before .before .make-room .ensures in
     let k = e .room .long in
     let p = spliced-good (length (now (a .slots))) (a .q .head .0) (a .start) (a .end - a .start) (length (now (a .values))) (a .q .len - a .end) (g .placed) (omega arith) in

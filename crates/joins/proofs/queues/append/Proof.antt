@@ -44,8 +44,8 @@ returns-2 c = append-none _ _ _ _ (past (c .before .before .before)) _ (c .befor
 wrap-add-requires : tie.Need-wrap-add-requires
 wrap-add-requires c κs = let k = ok (c .before .before .before .before .before) in omega arith
 
-copy-runs-requires : tie.Need-copy-runs-requires
-copy-runs-requires c κs = let k = ok (c .before .before .before .before .before .before) in (ok (c .before .before .before .before .before .before) .theirs, (omega arith, omega arith, place-in _ _ _ _ (c .wrap-add .ensures) (omega arith) (omega arith)))
+copy-later-requires : tie.Need-copy-later-requires
+copy-later-requires c κs = let k = ok (c .before .before .before .before .before .before) in (ok (c .before .before .before .before .before .before) .theirs, (omega arith, omega arith, place-in _ _ _ _ (c .wrap-add .ensures) (omega arith) (omega arith), k .ok .few))
 
 add-stepped : tie.Need-add-stepped
 add-stepped c = let k = ok (c .before .before .before .before .before .before .before .before .before) in omega arith
@@ -57,7 +57,7 @@ same-length : tie.Need-same-length
 same-length c = search needs
 
 returns-3 : tie.Need-returns-3
-returns-3 c = append-done _ _ _ _ (past (c .before .before .before .before .before .before .before .before .before .before)) _ (c .before .before .before .before .before .before .before .before .before .zero .ensures) _ (c .before .before .before .before .before .before .before .before .stepped .ensures) _ _ _ (c .before .before .before .before .before .before .before .if1 .left) (c .before .before .before .before .wrap-add .ensures) (c .before .before .before .copy-runs .ensures) (c .stepped2 .ensures)
+returns-3 c = append-done _ _ _ _ (past (c .before .before .before .before .before .before .before .before .before .before)) _ (c .before .before .before .before .before .before .before .before .before .zero .ensures) _ (c .before .before .before .before .before .before .before .before .stepped .ensures) _ _ _ (c .before .before .before .before .before .before .before .if1 .left) (c .before .before .before .before .wrap-add .ensures) (c .before .before .before .copy-later .ensures) (c .stepped2 .ensures)
 
 pub append-spec : {M : Type 1} → statement M
 append-spec =
@@ -71,7 +71,7 @@ append-spec =
     stepped-requires
     returns-2
     wrap-add-requires
-    copy-runs-requires
+    copy-later-requires
     add-stepped
     stepped-requires-2
     same-length

@@ -46,14 +46,17 @@ returns-2 c = split-none _ _ _ _ (past (c .before .before .before)) _ _ (c .befo
 zero-requires : tie.Need-zero-requires
 zero-requires c κs = search needs
 
-copy-runs-requires : tie.Need-copy-runs-requires
-copy-runs-requires c κs = let k = ok (c .before .before .before .before .before) .within in let m = ok (c .before .before .before .before .before) .fits in (ok (c .before .before .before .before .before) .ours, (omega arith, omega arith, omega (arith, c .zero .ensures)))
+copy-later-requires : tie.Need-copy-later-requires
+copy-later-requires c κs =
+    let k = ok (c .before .before .before .before .before) in
+    let fits = k .fits in
+    (k .ours, (omega arith, omega arith, omega (arith, c .zero .ensures), k .few))
 
 same-length : tie.Need-same-length
 same-length c = search needs
 
 returns-3 : tie.Need-returns-3
-returns-3 c = split-done _ _ _ _ (past (c .before .before .before .before .before .before .before .before)) _ _ (c .before .before .before .before .before .before .before .stepped .ensures) (c .before .before .before .before .before .before .new-record .ensures) _ _ (c .before .before .before .zero .ensures) (c .before .before .copy-runs .ensures)
+returns-3 c = split-done _ _ _ _ (past (c .before .before .before .before .before .before .before .before)) _ _ (c .before .before .before .before .before .before .before .stepped .ensures) (c .before .before .before .before .before .before .new-record .ensures) _ _ (c .before .before .before .zero .ensures) (c .before .before .copy-later .ensures)
 
 pub split-off-spec : {M : Type 1} → statement M
 split-off-spec =
@@ -68,6 +71,6 @@ split-off-spec =
     new-record-requires
     returns-2
     zero-requires
-    copy-runs-requires
+    copy-later-requires
     same-length
     returns-3)
