@@ -25,6 +25,17 @@ const ALIGNMENTS: std::ops::Range<usize> = 0..8;
 const AIM: f64 = 1.05;
 const AIMED: usize = 100;
 
+/// `ptr::copy`, so many times over, in the same kind of loop as the proved copy's: with nothing between two copies, since the second may have to wait for the first.
+#[inline(never)]
+fn pointer_copies(slots: &mut [u32], src: usize, dst: usize, n: usize, times: u32) {
+    assert!(src + n <= slots.len() && dst + n <= slots.len());
+    let s = slots.as_mut_ptr();
+    for _ in 0..times {
+        // SAFETY: both stretches lie in the slots.
+        unsafe { std::ptr::copy(s.add(src), s.add(dst), n) }
+    }
+}
+
 /// The same copy by std behind a function of its own that tests its operands, as the exported one is.
 #[inline(never)]
 fn called_copy(slots: &mut [u32], src: usize, dst: usize, n: usize) {
@@ -53,13 +64,7 @@ fn times_of(slots: &mut [u32], rust: &mut [u32], src: usize, dst: usize, n: usiz
     let called = &mut rust.to_vec()[..];
     let t = timing::times(&mut [
         &mut |turns| proved_copy(black_box(&mut *slots), src, dst, n, turns as usize),
-        &mut |turns| {
-            for _ in 0..turns {
-                let s = black_box(&mut *rust);
-                // SAFETY: both stretches lie in the slots.
-                unsafe { std::ptr::copy(s.as_ptr().add(src), s.as_mut_ptr().add(dst), n) }
-            }
-        },
+        &mut |turns| pointer_copies(black_box(&mut *rust), src, dst, n, turns),
         &mut |turns| (0..turns).for_each(|_| proved_copy(black_box(&mut *other), src, dst, n, 1)),
         &mut |turns| (0..turns).for_each(|_| called_copy(black_box(&mut *called), src, dst, n)),
     ]);
