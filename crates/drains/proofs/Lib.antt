@@ -2,5 +2,4 @@
 pub mod Checks
 pub mod Ranges
 pub mod Draws
-pub mod Rooms
 pub mod Closes

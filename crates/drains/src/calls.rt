@@ -3,7 +3,6 @@ use super::answers::Closed;
 use super::answers::Drain;
 use super::answers::Drawn;
 use super::answers::Opened;
-use super::holes::close_hole;
 use super::records;
 use places::WrappedIndex;
 use queue::Checked;
@@ -119,7 +118,7 @@ pub fn drain_close(slots: &mut [u32], d: Drain) -> Closed
         };
     }
     let head = d.head;
-    let joined = close_hole(slots, head, d.start, 0, d.drain_len, d.tail_len);
+    let joined = holes::close_hole(slots, head, d.start, 0, d.drain_len, d.tail_len);
     let first = joined.head;
     Closed::Done {
         queue: records::closed(d, first),

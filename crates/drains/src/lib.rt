@@ -1,7 +1,6 @@
 // Drain: a range of a queue is handed over element by element, from either end; then the hole that it leaves is closed.
 mod answers; // answers.rt: the record of an open drain, and the answers
 mod calls; // calls.rt: opening, next, next_back, closing
-mod holes; // holes.rt: how a hole is closed
 mod records; // records.rt: the tests and the steps of a drain's record
 
 pub use answers::Closed;
@@ -12,9 +11,3 @@ pub use calls::drain;
 pub use calls::drain_close;
 pub use calls::drain_next;
 pub use calls::drain_next_back;
-
-// What `splices` uses too.
-pub use holes::Joined;
-pub use holes::close_hole;
-pub use holes::head_over;
-pub use holes::move_elements;

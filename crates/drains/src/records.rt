@@ -1,6 +1,5 @@
 // The record of an open drain: its tests, the opening, and its steps.
 use super::answers::Drain;
-use super::holes::head_over;
 use places::WrappedIndex;
 use queue::Checked;
 use queue::Deque;
@@ -12,7 +11,7 @@ ghost use Rattle.rules.specs.Drains.{goodDrain, onDrain, opened, fromFront, fro
 ghost use Rattle.rules.specs.Refusals.{goodHead};
 ghost use Rattle.queue.specs.Answers.{recOf, numberIn};
 ghost use Rattle.drains.specs.Answers.{drainOf};
-ghost use Rattle.drains.specs.Holes.{shutFrom};
+ghost use Rattle.drains.specs.Shut.{shutFrom};
 
 // Whether the parts of the drain's queue fit so many slots and what remains lies in the drained range, where the head is good. The numbers may be any: no sum
 // is made before it is known to fit.
@@ -124,7 +123,7 @@ pub fn closed(d: Drain, head: WrappedIndex) -> Deque
 {
     let len = d.start + d.tail_len;
     Deque {
-        head: head_over(head, len),
+        head: holes::head_over(head, len),
         len,
     }
 }

@@ -10,7 +10,6 @@ ghost use Rattle.runs.specs.Answers.{ofRanges, spanOf};
 ghost use Rattle.runs.specs.Parts.{partStart};
 
 // A part of the slots: from `start` to before `end`.
-#[repr(C)]
 pub struct Span {
     pub start: usize,
     pub end: usize,

@@ -7,8 +7,8 @@ use native.Mathlib.Omega.{arith}
 use borrow.Author.Tests.{le-ltb, lt-ltb, ne-eqb, eq-eqb}
 use lib.Dec.{ltb}
 use lib.ListN.{length}
-use Rattle.drains.proofs.Rooms.{tail-moved}
-use Rattle.drains.specs.Holes.{joinedHead, joinedMoved, HoleClosed}
+use Rattle.holes.proofs.Rooms.{tail-moved}
+use Rattle.holes.specs.Holes.{joinedHead, joinedMoved, HoleClosed}
 use Rattle.rules.proofs.Places.{place-good}
 use Rattle.rules.proofs.Tests.{lt-or-ge, by-test}
 use Rattle.rules.specs.Places.{place}

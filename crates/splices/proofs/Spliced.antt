@@ -6,7 +6,7 @@ use Prim.Native.Nat.{ℕ, _+_, _-_, _≤_, _<_}
 use native.Mathlib.Omega.{arith}
 use lib.Dec.{eqb}
 use lib.ListN.{length, take, drop, length-append, length-take, length-drop}
-use Rattle.drains.proofs.Closes.{lay-over}
+use Rattle.holes.proofs.Closes.{lay-over}
 use Rattle.drains.proofs.Ranges.{range-in}
 use Rattle.queue.specs.Answers.{numberOf}
 use Rattle.rules.proofs.Made.{map-made}

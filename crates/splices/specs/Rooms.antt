@@ -4,7 +4,7 @@ use mathlib.Core.Path.{_≡_}
 use Prim.Native.Nat.{ℕ, _+_, _-_}
 use lib.Dec.{ltb}
 use lib.ListN.{length}
-use Rattle.drains.specs.Holes.{RoomMade}
+use Rattle.holes.specs.Holes.{RoomMade}
 use Rattle.rules.specs.Places.{place}
 use Rattle.rules.specs.Tests.{whether}
 

@@ -1,5 +1,5 @@
 // Splice: elements of a lent slice replace a range of a queue.
-use drains::Joined;
+use holes::Joined;
 use places::WrappedIndex;
 use queue::Change;
 use queue::Checked;
@@ -34,10 +34,10 @@ fn make_room(
         // [ . h h d d t t t . . . . . . ]
         //     H
         // [ . h h n n n n t t t . . . . ]
-        drains::move_elements(slots, head, start + drained, start + new, tail);
+        holes::move_elements(slots, head, start + drained, start + new, tail);
         return Joined { head, moved: tail };
     }
-    drains::close_hole(slots, head, start, new, drained - new, tail)
+    holes::close_hole(slots, head, start, new, drained - new, tail)
 }
 
 // Lays the values behind the first `start` elements.
@@ -94,7 +94,7 @@ pub fn splice(slots: &mut [u32], q: Deque, start: usize, end: usize, values: &[u
     fill(slots, first, start, values);
     let left = start + new + tail;
     Change::Done {
-        queue: queue::stepped(q, drains::head_over(first, left), left),
+        queue: queue::stepped(q, holes::head_over(first, left), left),
         moved: joined.moved,
     }
 }

@@ -7,7 +7,7 @@ use denote.Ref.{now}
 use lib.ListN.{length}
 use Rattle.extends.proofs.Adds.{extended-refused, extended-none, extended}
 use Rattle.extends.proofs.Asks.{More, more}
-use Rattle.queue.proofs.Checks.{passed-zero, Fine, fine}
+use Rattle.queue.proofs.Checks.{passed-zero}
 use Rattle.queue.specs.Answers.{recOf}
 use Rattle.extends.proofs.Behind.{place-in}
 

@@ -7,9 +7,8 @@ use denote.Ref.{now}
 use lib.ListN.{length}
 use Rattle.extends.proofs.Adds.{front-fits, prepended-refused, prepended-none, prepended}
 use Rattle.extends.proofs.Asks.{More, more}
-use Rattle.queue.proofs.Checks.{passed-zero, Fine, fine}
+use Rattle.queue.proofs.Checks.{passed-zero}
 use Rattle.queue.specs.Answers.{recOf}
-use Rattle.rules.proofs.Places.{stepBack-good}
 
 -- past the tests there is room
 past : (c : tie.After-enum-told) → More (now (c .before .before .before .before .before .args .slots)) (recOf (c .before .before .before .before .before .args .q)) (length (now (c .before .before .before .before .before .args .values)))

@@ -1,6 +1,4 @@
 -- `extends::stepped_back` meets its contract. Assumes nothing.
-use mathlib.Core.Path.{_∙_, ap}
-use Prim.Native.Nat.{ℕ}
 use Rattle.rules.specs.Records.{stepped}
 use borrow.Author.Needs.{needs}
 use Rattle.extends.proofs.stepped_back.Statement.{statement}

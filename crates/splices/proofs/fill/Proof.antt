@@ -5,7 +5,7 @@ use native.Mathlib.Omega.{arith}
 use borrow.Author.Needs.{needs}
 use denote.Ref.{now}
 use lib.ListN.{length}
-use Rattle.drains.proofs.Rooms.{lay-short}
+use Rattle.holes.proofs.Rooms.{lay-short}
 use Rattle.rules.proofs.Places.{place-low}
 use Rattle.rules.specs.Slots.{lay}
 use Rattle.splices.proofs.fill.Statement.{statement}

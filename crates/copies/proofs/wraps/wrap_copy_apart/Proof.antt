@@ -5,7 +5,6 @@ use native.Mathlib.Omega.{arith}
 use lib.ListN.{length}
 use denote.Ref.{now}
 use Rattle.copies.proofs.Overlaps.{one-overlap}
-use Rattle.rules.proofs.Ring.{copy-none}
 use Rattle.rules.proofs.Slots.{lay-own}
 use Rattle.rules.specs.Places.{stepBack}
 use Rattle.rules.specs.Slots.{copied}

@@ -1,6 +1,6 @@
 -- `drains::closed` meets its contract. Assumes nothing.
 use borrow.Author.Needs.{needs}
-use Rattle.drains.specs.Holes.{shutFrom}
+use Rattle.drains.specs.Shut.{shutFrom}
 use Rattle.drains.proofs.records.closed.Statement.{statement}
 use Rattle.drains.proofs.records.closed.Tie as tie
 

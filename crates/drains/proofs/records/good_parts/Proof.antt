@@ -1,6 +1,5 @@
 -- `drains::good_parts` meets its contract. Assumes nothing.
 use native.Mathlib.Omega.{arith}
-use borrow.Author.Needs.{needs}
 use Rattle.drains.proofs.Checks.{bad, last-test}
 use Rattle.drains.proofs.records.good_parts.Statement.{statement}
 use Rattle.drains.proofs.records.good_parts.Tie as tie

@@ -6,7 +6,7 @@ use denote.Ref.{now}
 use lib.ListN.{length}
 use Rattle.extends.proofs.Asks.{Appends, appends}
 use Rattle.joins.proofs.Pairs.{append-refused, append-none, append-done}
-use Rattle.queue.proofs.Checks.{passed-zero, Fine, fine}
+use Rattle.queue.proofs.Checks.{passed-zero}
 use Rattle.queue.specs.Answers.{recOf}
 use Rattle.extends.proofs.Behind.{place-in}
 use Rattle.rules.specs.Pairs.{onAppending}

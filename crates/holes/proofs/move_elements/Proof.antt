@@ -1,12 +1,12 @@
--- `drains::move_elements` meets its contract. Assumes nothing.
+-- `holes::move_elements` meets its contract. Assumes nothing.
 use mathlib.Core.Path.{_∙_}
 use native.Mathlib.Omega.{arith}
 use borrow.Author.Needs.{needs}
 use denote.Ref.{now}
-use Rattle.drains.proofs.Rooms.{can-move}
+use Rattle.holes.proofs.Rooms.{can-move}
 use Rattle.rules.specs.Slots.{copied}
-use Rattle.drains.proofs.holes.move_elements.Statement.{statement}
-use Rattle.drains.proofs.holes.move_elements.Tie as tie
+use Rattle.holes.proofs.move_elements.Statement.{statement}
+use Rattle.holes.proofs.move_elements.Tie as tie
 
 wrap-add-requires : tie.Need-wrap-add-requires
 wrap-add-requires c κs = search needs

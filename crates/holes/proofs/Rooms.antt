@@ -7,7 +7,7 @@ use native.Mathlib.Nat.{add-comm, suc-ne-zero}
 use native.Mathlib.Omega.{arith}
 use lib.ListN.{length, take, drop, length-append, length-take, length-drop}
 use Rattle.copies.specs.Overlap.{OneOverlap}
-use Rattle.drains.specs.Holes.{replaced, RoomMade}
+use Rattle.holes.specs.Holes.{replaced, RoomMade}
 use Rattle.rules.proofs.Places.{wrap, place-low, place-place}
 use Rattle.rules.proofs.Ring.{write-write, length-read, write-append, write-behind, read-write, write-read}
 use Rattle.rules.proofs.Slots.{lay-none, listOf-take, listOf-drop, length-lay, lay-own, length-listOf}

@@ -1,9 +1,9 @@
--- `drains::holes::shorter_side` meets its contract. Assumes nothing.
+-- `holes::shorter_side` meets its contract. Assumes nothing.
 use native.Mathlib.Omega.{arith}
 use borrow.Author.Needs.{needs}
-use Rattle.drains.proofs.Closes.{earlier-side, later-side}
-use Rattle.drains.proofs.holes.shorter_side.Statement.{statement}
-use Rattle.drains.proofs.holes.shorter_side.Tie as tie
+use Rattle.holes.proofs.Closes.{earlier-side, later-side}
+use Rattle.holes.proofs.shorter_side.Statement.{statement}
+use Rattle.holes.proofs.shorter_side.Tie as tie
 
 add-before : tie.Need-add-before
 add-before c = search needs

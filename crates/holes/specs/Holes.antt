@@ -4,9 +4,7 @@ use mathlib.Core.Path.{_≡_}
 use Prim.Native.Nat.{ℕ, _+_}
 use lib.Dec.{eqb, ltb}
 use lib.ListN.{take, drop, length}
-use Rattle.rules.specs.Drains.{Drain}
 use Rattle.rules.specs.Places.{place}
-use Rattle.rules.specs.Records.{Rec}
 use Rattle.rules.specs.Slots.{lay, listOf}
 use Rattle.rules.specs.Tests.{whether}
 
@@ -42,7 +40,3 @@ pub record HoleClosed (b b′ : List ℕ) (h s r k t h′ m : ℕ) : Type 0 wher
   pub head : h′ ≡ joinedHead (length b) h s r k t
   pub moved : m ≡ joinedMoved s r k t
   pub room : RoomMade b b′ h h′ s (k + r) r t
-
--- the record of the queue that the closing of d leaves from head h on; head is 0 if nothing remains
-unfoldable pub shutFrom : Drain → ℕ → Rec
-shutFrom d h = record { head = whether (eqb (d .start + d .tail) 0) 0 h; len = d .start + d .tail }

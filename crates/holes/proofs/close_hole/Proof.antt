@@ -1,10 +1,10 @@
--- `drains::close_hole` meets its contract. Assumes nothing.
+-- `holes::close_hole` meets its contract. Assumes nothing.
 use native.Mathlib.Omega.{arith}
 use borrow.Author.Needs.{needs}
 use denote.Ref.{now}
-use Rattle.drains.proofs.Closes.{no-hole, side-can-move, side-moved}
-use Rattle.drains.proofs.holes.close_hole.Statement.{statement}
-use Rattle.drains.proofs.holes.close_hole.Tie as tie
+use Rattle.holes.proofs.Closes.{no-hole, side-can-move, side-moved}
+use Rattle.holes.proofs.close_hole.Statement.{statement}
+use Rattle.holes.proofs.close_hole.Tie as tie
 
 returns : tie.Need-returns
 returns c = let p = c .before .before .pre in no-hole _ _ _ _ _ _ (p .0) (p .1) (c .if1 .taken)

@@ -1,9 +1,9 @@
--- `drains::head_over` meets its contract. Assumes nothing.
+-- `holes::head_over` meets its contract. Assumes nothing.
 use borrow.Author.Needs.{needs}
 use borrow.Author.Tests.{ne-eqb}
 use Rattle.rules.specs.Tests.{whether}
-use Rattle.drains.proofs.holes.head_over.Statement.{statement}
-use Rattle.drains.proofs.holes.head_over.Tie as tie
+use Rattle.holes.proofs.head_over.Statement.{statement}
+use Rattle.holes.proofs.head_over.Tie as tie
 
 zero-requires : tie.Need-zero-requires
 zero-requires c κs = search needs

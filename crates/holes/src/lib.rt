@@ -8,7 +8,7 @@ ghost use Rattle.rules.specs.Places.{place};
 ghost use Rattle.rules.specs.Refusals.{mostSlots};
 ghost use Rattle.rules.specs.Slots.{copied};
 ghost use Rattle.rules.specs.Tests.{whether};
-ghost use Rattle.drains.specs.Holes.{HoleClosed, SideMoves};
+ghost use Rattle.holes.specs.Holes.{HoleClosed, SideMoves};
 
 // Where a queue begins once its hole is closed, and how many elements moved for it.
 pub struct Joined {
