@@ -86,7 +86,9 @@ impl<'a> Queue<'a> {
     /// Takes what a call answers that hands nothing over.
     #[inline]
     pub(crate) fn take_change(&mut self, reply: raw::Reply) -> Result<(), Refusal> {
-        self.take(reply).map(|_| ())
+        Refusal::of(reply.refused.into())?;
+        self.moved = reply.moved;
+        Ok(())
     }
 
     /// The first position of a range, and the one behind its last.

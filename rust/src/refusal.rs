@@ -18,16 +18,24 @@ pub enum Refusal {
 }
 
 impl Refusal {
-    /// Ok where a call was accepted.
+    /// Ok where a call was accepted. That is asked first, and alone.
     #[inline]
     pub(crate) fn of(number: usize) -> Result<(), Refusal> {
+        if number == 0 {
+            return Ok(());
+        }
+        Err(Refusal::numbered(number))
+    }
+
+    /// The refusal of a number, which is not 0.
+    #[cold]
+    fn numbered(number: usize) -> Refusal {
         match number {
-            0 => Ok(()),
-            1 => Err(Refusal::Slots),
-            2 => Err(Refusal::Record),
-            3 => Err(Refusal::Position),
-            4 => Err(Refusal::Room),
-            _ => Err(Refusal::Image),
+            1 => Refusal::Slots,
+            2 => Refusal::Record,
+            3 => Refusal::Position,
+            4 => Refusal::Room,
+            _ => Refusal::Image,
         }
     }
 }
