@@ -110,7 +110,9 @@ pub fn replay(slots: &mut [u32], input: &mut [u8], out: &mut [u8], limit: u64) -
         return refused;
     };
     let ran = run(slots, queue, input, out, limit);
-    let last = put_last(slots, ran.queue, out, ran.output);
+    let left = ran.queue;
+    let written = ran.output;
+    let last = put_last(slots, left, out, written);
     if last.open {
         return Replayed {
             unread: ran.unread,
