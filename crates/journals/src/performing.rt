@@ -30,7 +30,7 @@ fn of_closed(q: Deque, closed: Closed) -> Reply
         },
         Closed::Refused {
             refusal,
-            drain,
+            drain: _,
             moved,
         } => Reply {
             refused: number_of(refusal),
@@ -46,7 +46,7 @@ fn drain_closed(slots: &mut [u32], q: Deque, start: usize, end: usize) -> Reply
     ensures { λ r. ⌜ (ofReply r, now (slots .exit)) ≡ told (closing (doOpen (now (slots .entry)) (recOf q) start end)) ⌝ }
 {
     match drains::drain(slots, q, start, end) {
-        Opened::Done { drain, moved } => of_closed(q, drains::drain_close(slots, drain)),
+        Opened::Done { drain, moved: _ } => of_closed(q, drains::drain_close(slots, drain)),
         Opened::Refused {
             refusal,
             queue,

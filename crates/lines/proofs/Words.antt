@@ -9,8 +9,12 @@ use Rattle.lines.specs.Puts.{Puts, fourNumbers}
 use Rattle.rules.specs.Journals.{Entry}
 use Rattle.rules.specs.Outcome.{Answer, shut}
 use Rattle.rules.specs.Records.{Rec}
-use Rattle.rules.specs.Replays.{space, newline, decimal, spaced, lineOf, handedWord, answerLine, brokenLine, recOr}
+use Rattle.rules.specs.Replays.{space, newline, decimal, spaced, lineOf, numberOrNone, handedWord, answerLine, brokenLine, recOr}
 use Rattle.journals.specs.declared.records.Operation.{Operation}
+use Rattle.journals.specs.declared.records.Operation.the-variants.{PushBack, PushFront, PopFront, PopBack, Drain, Truncate, TruncateFront, Insert, Remove}
+use Rattle.journals.proofs.records.Operation.{the-type}
+use denote.Enum.Declared.{tagOf}
+use types.Run.{OneOf, miss}
 
 spaced-append : (u v : List (List ℕ)) → spaced (u ++ v) ≡ spaced u ++ spaced v
 unfolding spaced
@@ -28,15 +32,46 @@ whole-line w u v =
     append-assoc (w ++ spaced u) (spaced v) (newline ∷ []) ∙ append-assoc w (spaced u) (spaced v ++ newline ∷ [])
     ∙ ap (λ (l : List ℕ). w ++ l) (sym (append-assoc (spaced u) (spaced v) (newline ∷ [])) ∙ ap (λ (l : List ℕ). l ++ newline ∷ []) (sym (spaced-append u v)))
 
--- ---- what a line says of an operation that is known
+-- ---- what a line says of an operation
 
-module _ (t : List ℕ) (p : ℕ) (o k : Operation) (h : Option ℕ) (known : o ≡ k) where
-  pub says : (t′ : List ℕ) (q : ℕ) (w : List ℕ) → handedWord (entryFor k) h ≡ w ∷ [] → Puts t t′ p q (space ∷ w) → Puts t t′ p q (spaced (handedWord (entryFor o) h))
-  says t′ q w e a = puts-as t p t′ q _ _ (spaced-one w ∙ ap spaced (sym e ∙ ap (λ (x : Operation). handedWord (entryFor x) h) (sym known))) a
+-- the tags of the operations whose line says what was handed over, and of the others
+abbrev saying : List ℕ
+saying = 2 ∷ 3 ∷ 8 ∷ []
 
-  pub says-nothing : handedWord (entryFor k) h ≡ [] → Puts t t p p (spaced (handedWord (entryFor o) h))
+abbrev silent : List ℕ
+silent = 0 ∷ 1 ∷ 4 ∷ 5 ∷ 6 ∷ 7 ∷ []
+
+word : (o : Operation) (h : Option ℕ) → OneOf saying (tagOf the-type o) → numberOrNone h ∷ [] ≡ handedWord (entryFor o) h
+unfolding handedWord
+word PopFront h k = refl
+word PopBack h k = refl
+word (Remove i) h k = refl
+word (PushBack v) h k = absurd (miss saying 0 tt k)
+word (PushFront v) h k = absurd (miss saying 1 tt k)
+word (Drain i j) h k = absurd (miss saying 4 tt k)
+word (Truncate n) h k = absurd (miss saying 5 tt k)
+word (TruncateFront n) h k = absurd (miss saying 6 tt k)
+word (Insert i v) h k = absurd (miss saying 7 tt k)
+
+no-word : (o : Operation) (h : Option ℕ) → OneOf silent (tagOf the-type o) → [] ≡ handedWord (entryFor o) h
+unfolding handedWord
+no-word PopFront h k = absurd (miss silent 2 tt k)
+no-word PopBack h k = absurd (miss silent 3 tt k)
+no-word (Remove i) h k = absurd (miss silent 8 tt k)
+no-word (PushBack v) h k = refl
+no-word (PushFront v) h k = refl
+no-word (Drain i j) h k = refl
+no-word (Truncate n) h k = refl
+no-word (TruncateFront n) h k = refl
+no-word (Insert i v) h k = refl
+
+module _ (t : List ℕ) (p : ℕ) (o : Operation) (h : Option ℕ) where
+  pub says : (t′ : List ℕ) (q : ℕ) → OneOf saying (tagOf the-type o) → Puts t t′ p q (space ∷ numberOrNone h) → Puts t t′ p q (spaced (handedWord (entryFor o) h))
+  says t′ q k a = puts-as t p t′ q _ _ (spaced-one (numberOrNone h) ∙ ap spaced (word o h k)) a
+
+  pub says-nothing : OneOf silent (tagOf the-type o) → Puts t t p p (spaced (handedWord (entryFor o) h))
   unfolding spaced
-  says-nothing e = puts-as t p t p [] _ (ap spaced (sym e ∙ ap (λ (x : Operation). handedWord (entryFor x) h) (sym known))) (puts-none t p)
+  says-nothing k = puts-as t p t p [] _ (ap spaced (no-word o h k)) (puts-none t p)
 
 -- ---- the numbers, and the lines
 

@@ -72,15 +72,10 @@ fn put_handed(out: &mut [u8], at: usize, operation: Operation, handed: Given) ->
     ensures { λ r. ⌜ Puts (now (out .entry)) (now (out .exit)) at r (spaced (handedWord (entryFor operation) (ofGiven handed))) × (r ≤ at + 21) ⌝ }
 {
     match operation {
-        Operation::PopFront => put_given(out, at, handed),
-        Operation::PopBack => put_given(out, at, handed),
-        Operation::Remove(index) => put_given(out, at, handed),
-        Operation::PushBack(v) => at,
-        Operation::PushFront(v) => at,
-        Operation::Drain(start, end) => at,
-        Operation::Truncate(n) => at,
-        Operation::TruncateFront(n) => at,
-        Operation::Insert(index, v) => at,
+        Operation::PopFront | Operation::PopBack | Operation::Remove(_) => {
+            put_given(out, at, handed)
+        }
+        _ => at,
     }
 }
 

@@ -177,13 +177,11 @@ fn say_turned(number: usize, turned: Turned) -> Said {
 
 // The queues with the records that a call left.
 fn with_turned(queues: Queues, turned: Turned) -> Queues {
-    let a = queues.a;
-    let b = queues.b;
     let first = turned.a;
     let second = turned.b;
     Queues {
-        a: a.with_holding(first),
-        b: b.with_holding(second),
+        a: queues.a.with_holding(first),
+        b: queues.b.with_holding(second),
     }
 }
 

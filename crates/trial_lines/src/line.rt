@@ -20,10 +20,9 @@ pub struct Called {
 // Puts what a call gave.
 fn put_done(done: Done, out: &mut [u8], at: usize) -> Called {
     let queues = done.queues;
-    let said = done.said;
     Called {
         queues,
-        at: put_said(out, at, said),
+        at: put_said(out, at, done.said),
     }
 }
 

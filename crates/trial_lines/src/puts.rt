@@ -225,10 +225,8 @@ pub fn put_queues(
     b_slots: &[u32],
     queues: Queues,
 ) -> usize {
-    let a = queues.a;
-    let b = queues.b;
-    let first = put_queue(out, at, a_slots, a);
-    let second = put_queue(out, first, b_slots, b);
+    let first = put_queue(out, at, a_slots, queues.a);
+    let second = put_queue(out, first, b_slots, queues.b);
     put_byte(out, second, b'\n')
 }
 

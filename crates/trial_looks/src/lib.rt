@@ -73,10 +73,9 @@ fn ask<'a>(
 ) -> Done {
     let slots = slots_of(side, a_slots, b_slots);
     let asked = ask_one(number, words, slots, queues.of(side));
-    let kept = asked.kept;
     let said = asked.said;
     Done {
-        queues: queues.with(side, kept),
+        queues: queues.with(side, asked.kept),
         said,
     }
 }

@@ -51,14 +51,8 @@ module _ (b b′ : List ℕ) (s : Seen × List ℕ × List ℕ) (x k : Holding) 
   pub append-known : s ≡ toldStep (appendStep b (heldOf k) b′ h) → s ≡ toldStep (appendStep b (heldOf x) b′ h)
   append-known f = known (λ (y : Holding). toldStep (appendStep b (heldOf y) b′ h)) x k s e f
 
-  pub append-other-known : s ≡ toldStep (appendStep b h b′ (heldOf k)) → s ≡ toldStep (appendStep b h b′ (heldOf x))
-  append-other-known f = known (λ (y : Holding). toldStep (appendStep b h b′ (heldOf y))) x k s e f
-
   pub split-known : (i : ℕ) → s ≡ toldStep (splitStep b (heldOf k) b′ h i) → s ≡ toldStep (splitStep b (heldOf x) b′ h i)
   split-known i f = known (λ (y : Holding). toldStep (splitStep b (heldOf y) b′ h i)) x k s e f
-
-  pub split-other-known : (i : ℕ) → s ≡ toldStep (splitStep b h b′ (heldOf k) i) → s ≡ toldStep (splitStep b h b′ (heldOf x) i)
-  split-other-known i f = known (λ (y : Holding). toldStep (splitStep b h b′ (heldOf y) i)) x k s e f
 
 module _ (s : Seen × List ℕ × List ℕ) where
   pub call-known : (vs bs : List ℕ) (p q : Queue) (x k : Call) → x ≡ k → s ≡ toldStep (firstStep p q (callOf k vs bs)) → s ≡ toldStep (firstStep p q (callOf x vs bs))

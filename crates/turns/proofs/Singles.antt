@@ -1,11 +1,9 @@
 -- The answers of calls that make a record, and of those that are passed over. Assumes nothing.
 use mathlib.Core.List.{List, [], _∷_}
 use mathlib.Core.Path.{_≡_, sym, _∙_, ap}
-use mathlib.Core.Logic.{inl, inr}
-use Prim.Native.Nat.{ℕ, _<_}
-use native.Mathlib.Omega.{arith}
+use Prim.Native.Nat.{ℕ}
 use denote.Enum.Declared.{tagOf}
-use types.Run.{OneOf}
+use types.Run.{OneOf, miss}
 use Rattle.queue.specs.Answers.{numberOf, ofMade}
 use Rattle.rules.specs.Drains.{Drain}
 use Rattle.rules.specs.Calls.{Op, rule}
@@ -76,14 +74,6 @@ none-open b r Next p e = λ i. (e i, b)
 none-open b r NextBack p e = λ i. (e i, b)
 none-open b r Close p e = λ i. (e i, b)
 
-below-six : (n : ℕ) → OneOf (0 ∷ 1 ∷ 2 ∷ 3 ∷ 4 ∷ 5 ∷ []) n → n < 6
-below-six n (inl e) = omega arith
-below-six n (inr (inl e)) = omega arith
-below-six n (inr (inr (inl e))) = omega arith
-below-six n (inr (inr (inr (inl e)))) = omega arith
-below-six n (inr (inr (inr (inr (inl e))))) = omega arith
-below-six n (inr (inr (inr (inr (inr e))))) = omega arith
-
 -- any other call where one is open
 pub still-open : (b : List ℕ) (d : Drain) (vs bs : List ℕ) (k : Single) (p : Answer) → OneOf (0 ∷ 1 ∷ 2 ∷ 3 ∷ 4 ∷ 5 ∷ []) (tagOf the-type k) → p ≡ noAnswer (drawn d)
     → (p, b) ≡ told (doOne b (drawn d) (singleOf k vs bs))
@@ -94,4 +84,4 @@ still-open b d vs bs (Removing k) p o e = λ i. (e i, b)
 still-open b d vs bs Fresh p o e = λ i. (e i, b)
 still-open b d vs bs ReadImage p o e = λ i. (e i, b)
 still-open b d vs bs (Opening s t) p o e = λ i. (e i, b)
-still-open b d vs bs (Draining k) p o e = absurd (omega (arith, below-six 6 o))
+still-open b d vs bs (Draining k) p o e = absurd (miss (0 ∷ 1 ∷ 2 ∷ 3 ∷ 4 ∷ 5 ∷ []) 6 tt o)

@@ -27,7 +27,7 @@ ghost use Rattle.rules.specs.Sequences.{doOne};
 ghost use Rattle.queue.specs.Answers.{ofChange, ofHanded, recOf};
 ghost use Rattle.drains.specs.Answers.{drainOf};
 ghost use Rattle.turns.specs.Answers.{heldOf, ofAnswer};
-ghost use Rattle.turns.specs.Calls.{editOf, joinOf, removalOf, singleOf, stepOf};
+ghost use Rattle.turns.specs.Calls.{editOf, joinOf, removalOf, singleOf};
 
 // Makes a call that hands nothing over.
 fn make_edit(slots: &mut [u32], q: Deque, edit: Edit) -> Change
@@ -88,24 +88,17 @@ fn on_queue(slots: &mut [u32], q: Deque, call: Single, values: &[u32], bytes: &[
     }
 }
 
-// Makes a call of an open drain.
-fn drain_step(slots: &mut [u32], d: Drain, step: DrainStep) -> Answer
-    ensures { λ r. ⌜ (ofAnswer r, now (slots .exit)) ≡ told (doOne (now (slots .entry)) (drawn (drainOf d)) (stepOf step)) ⌝ }
-{
-    match step {
-        DrainStep::Next => of_drawn(drains::drain_next(slots, d)),
-        DrainStep::NextBack => of_drawn(drains::drain_next_back(slots, d)),
-        DrainStep::Close => of_closed(drains::drain_close(slots, d)),
-    }
-}
-
 // Makes a call on a queue whose drain is open; a call that is not the drain's is passed over.
 fn on_drain(slots: &mut [u32], d: Drain, call: Single) -> Answer
     ensures { λ r. ⌜ ((vs bs : List ℕ) → (ofAnswer r, now (slots .exit)) ≡ told (doOne (now (slots .entry)) (drawn (drainOf d)) (singleOf call vs bs))) ⌝ }
 {
-    match call {
-        Single::Draining(step) => drain_step(slots, d, step),
-        _ => passed_over(Holding::Open(d)),
+    let Single::Draining(step) = call else {
+        return passed_over(Holding::Open(d));
+    };
+    match step {
+        DrainStep::Next => of_drawn(drains::drain_next(slots, d)),
+        DrainStep::NextBack => of_drawn(drains::drain_next_back(slots, d)),
+        DrainStep::Close => of_closed(drains::drain_close(slots, d)),
     }
 }
 

@@ -107,37 +107,17 @@ fn of_split(other: Holding, split: Split) -> Turned
     }
 }
 
-// `append` to a queue without an open drain; while the other's is open it is passed over.
-fn append_to(slots: &mut [u32], q: Deque, other_slots: &[u32], other: Holding) -> Turned
-    ensures { λ r. ⌜ (ofTurned r, now (slots .exit), now («other_slots» .entry)) ≡ toldStep (appendStep (now (slots .entry)) (shut (recOf q)) (now («other_slots» .entry)) (heldOf other)) ⌝ }
-{
-    match other {
-        Holding::Shut(second) => of_joined(joins::append(slots, q, other_slots, second)),
-        Holding::Open(d) => neither(Holding::Shut(q), Holding::Open(d)),
-    }
-}
-
 // `append`; while a drain is open it is passed over.
 fn append(slots: &mut [u32], holding: Holding, other_slots: &[u32], other: Holding) -> Turned
     ensures { λ r. ⌜ (ofTurned r, now (slots .exit), now («other_slots» .entry)) ≡ toldStep (appendStep (now (slots .entry)) (heldOf holding) (now («other_slots» .entry)) (heldOf other)) ⌝ }
 {
-    match holding {
-        Holding::Shut(q) => append_to(slots, q, other_slots, other),
-        Holding::Open(d) => neither(Holding::Open(d), other),
-    }
-}
-
-// `split_off` of a queue without an open drain; while the other's is open it is passed over.
-fn split_from(slots: &[u32], q: Deque, at: usize, other_slots: &mut [u32], other: Holding) -> Turned
-    ensures { λ r. ⌜ (ofTurned r, now (slots .entry), now («other_slots» .exit)) ≡ toldStep (splitStep (now (slots .entry)) (shut (recOf q)) (now («other_slots» .entry)) (heldOf other) at) ⌝ }
-{
-    match other {
-        Holding::Shut(second) => of_split(
-            Holding::Shut(second),
-            joins::split_off(slots, q, at, other_slots),
-        ),
-        Holding::Open(d) => neither(Holding::Shut(q), Holding::Open(d)),
-    }
+    let Holding::Shut(q) = holding else {
+        return neither(holding, other);
+    };
+    let Holding::Shut(second) = other else {
+        return neither(holding, other);
+    };
+    of_joined(joins::append(slots, q, other_slots, second))
 }
 
 // `split_off`; while a drain is open it is passed over.
@@ -150,10 +130,13 @@ fn split_off(
 ) -> Turned
     ensures { λ r. ⌜ (ofTurned r, now (slots .entry), now («other_slots» .exit)) ≡ toldStep (splitStep (now (slots .entry)) (heldOf holding) (now («other_slots» .entry)) (heldOf other) at) ⌝ }
 {
-    match holding {
-        Holding::Shut(q) => split_from(slots, q, at, other_slots, other),
-        Holding::Open(d) => neither(Holding::Open(d), other),
-    }
+    let Holding::Shut(q) = holding else {
+        return neither(holding, other);
+    };
+    let Holding::Shut(_) = other else {
+        return neither(holding, other);
+    };
+    of_split(other, joins::split_off(slots, q, at, other_slots))
 }
 
 // Makes a call on the first of two queues.
