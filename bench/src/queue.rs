@@ -14,8 +14,12 @@ pub trait Queue {
     fn truncate(&mut self, n: usize);
     fn extend(&mut self, values: &[u32]);
     fn prepend(&mut self, values: &[u32]);
+    fn extend_front(&mut self, values: &[u32]);
     fn truncate_front(&mut self, n: usize);
+    fn resize(&mut self, n: usize, v: u32);
     fn append(&mut self, other: &mut Self);
+    /// Splits the elements from position `at` on off, and appends them again.
+    fn split_append(&mut self, at: usize);
     fn drain(&mut self, start: usize, end: usize);
     fn splice(&mut self, start: usize, end: usize, values: &[u32]);
     fn retain_below(&mut self, k: u32);

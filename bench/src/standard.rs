@@ -67,6 +67,19 @@ macro_rules! side {
                 self.0.truncate_front(n)
             }
             #[$inlining]
+            fn extend_front(&mut self, values: &[u32]) {
+                self.0.extend_front(values.iter().copied())
+            }
+            #[$inlining]
+            fn resize(&mut self, n: usize, v: u32) {
+                self.0.resize(n, v)
+            }
+            #[$inlining]
+            fn split_append(&mut self, at: usize) {
+                let mut later = self.0.split_off(at);
+                self.0.append(&mut later)
+            }
+            #[$inlining]
             fn append(&mut self, other: &mut Self) {
                 self.0.append(&mut other.0)
             }

@@ -13,7 +13,10 @@ pub enum Work {
     DrainMiddle,
     Extend,
     Prepend,
+    ExtendFront,
+    Resize,
     Append,
+    SplitAppend,
     SpliceSame,
     SpliceGrow,
     RetainAll,
@@ -25,7 +28,7 @@ pub enum Work {
 }
 
 impl Work {
-    pub const ALL: [Work; 18] = [
+    pub const ALL: [Work; 21] = [
         Work::PushBackPopFront,
         Work::PushFrontPopBack,
         Work::GetAll,
@@ -35,7 +38,10 @@ impl Work {
         Work::DrainMiddle,
         Work::Extend,
         Work::Prepend,
+        Work::ExtendFront,
+        Work::Resize,
         Work::Append,
+        Work::SplitAppend,
         Work::SpliceSame,
         Work::SpliceGrow,
         Work::RetainAll,
@@ -57,7 +63,10 @@ impl Work {
             Work::DrainMiddle => "drain n/8 in the middle, extend by n/8",
             Work::Extend => "extend by n, truncate",
             Work::Prepend => "prepend n/2, truncate_front",
+            Work::ExtendFront => "extend_front n/2, truncate_front",
+            Work::Resize => "resize by n/2 more, truncate",
             Work::Append => "append n/2, extend the other by n/2",
+            Work::SplitAppend => "split_off in the middle, append",
             Work::SpliceSame => "splice n/8 for n/8 in the middle",
             Work::SpliceGrow => "splice n/8 for n/16, n/16 for n/8",
             Work::RetainAll => "retain, none rejected",
@@ -113,7 +122,7 @@ impl<Q: Queue> State<Q> {
         let mut other = Q::starting_at(cap, head);
         match work {
             Work::Extend | Work::RetainHalf => {}
-            Work::Prepend => queue.extend(&ascending[0..n / 2]),
+            Work::Prepend | Work::ExtendFront | Work::Resize => queue.extend(&ascending[0..n / 2]),
             Work::Append => {
                 queue.extend(&ascending[0..n / 2]);
                 other.extend(&ascending[0..n / 2]);
@@ -171,6 +180,17 @@ impl<Q: Queue> State<Q> {
                 q.prepend(&values[0..n / 2]);
                 q.truncate_front(n / 2);
             }),
+            Work::ExtendFront => times.for_each(|_| {
+                let q = black_box(&mut *q);
+                q.extend_front(&values[0..n / 2]);
+                q.truncate_front(n / 2);
+            }),
+            Work::Resize => times.for_each(|v| {
+                let q = black_box(&mut *q);
+                q.resize(n, v);
+                q.truncate(n / 2);
+            }),
+            Work::SplitAppend => times.for_each(|_| black_box(&mut *q).split_append(n / 2)),
             Work::Append => times.for_each(|_| {
                 let q = black_box(&mut *q);
                 q.append(&mut self.other);
