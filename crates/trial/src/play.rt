@@ -1,12 +1,12 @@
 // A script, line by line.
-use trial_calls::Queues;
-use trial_calls::quiet;
-use trial_calls::record;
 use trial_lines::is_call;
 use trial_lines::play_call;
-use trial_lines::put_broken;
-use trial_lines::put_first;
 use trial_looks::fill;
+use trial_puts::put_broken;
+use trial_puts::put_first;
+use trial_state::Queues;
+use trial_state::quiet;
+use trial_state::record;
 use trial_text::First;
 use trial_text::Piece;
 use trial_text::Read;

@@ -1,18 +1,16 @@
-// The calls of a trial script, those too that only look, walk or set a state.
+// The calls of a trial script that only look, walk or set a state.
 mod looks; // looks.rt: the calls that only look
 mod replies; // replies.rt: what they say
 mod sets; // sets.rt: the calls that set a state
 mod steps; // steps.rt: the walks
 
-pub use replies::written;
 pub use sets::fill;
 use steps::Asked;
-use trial_calls::Done;
-use trial_calls::Kept;
-use trial_calls::Queues;
-use trial_calls::change;
-use trial_calls::other;
-use trial_calls::said::say_done;
+use trial_state::Done;
+use trial_state::Kept;
+use trial_state::Queues;
+use trial_state::other;
+use trial_state::said::say_done;
 use turns::Side;
 
 // The slots of a queue.
@@ -80,8 +78,8 @@ fn ask<'a>(
     }
 }
 
-// Makes a call.
-pub fn call(
+// Makes a call that is not one of `trial_calls`.
+pub fn look_or_set(
     number: usize,
     words: &[usize],
     a_slots: &mut [u32],
@@ -90,7 +88,6 @@ pub fn call(
     side: Side,
 ) -> Done {
     match number {
-        0..=6 | 10..=24 | 33..=37 | 41 => change(number, words, a_slots, b_slots, queues, side),
         26 | 27 => compare(number, a_slots, b_slots, queues, side),
         93 => Done {
             queues: sets::plant(a_slots, b_slots, words),

@@ -1,9 +1,9 @@
 // The calls that only look. While a drain is open they are passed over.
 use crate::replies;
-use trial_calls::operands::Operands;
-use trial_calls::operands::first_two;
-use trial_calls::said::Said;
-use trial_calls::said::say_done;
+use trial_state::operands::Operands;
+use trial_state::operands::first_two;
+use trial_state::said::Said;
+use trial_state::said::say_done;
 use turns::Holding;
 use vec_deque::Deque;
 use vec_deque::Found;

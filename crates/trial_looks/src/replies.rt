@@ -1,15 +1,15 @@
 // What the calls that only look say.
 use crate::steps::Asked;
 use answers::number_of;
-use trial_calls::Kept;
-use trial_calls::said;
-use trial_calls::said::Said;
-use trial_calls::said::say;
-use trial_calls::said::say_done;
-use trial_calls::said::say_element;
-use trial_calls::said::say_nothing;
-use trial_calls::said::say_number;
-use trial_calls::said::say_runs;
+use trial_state::Kept;
+use trial_state::said;
+use trial_state::said::Said;
+use trial_state::said::say;
+use trial_state::said::say_done;
+use trial_state::said::say_element;
+use trial_state::said::say_nothing;
+use trial_state::said::say_number;
+use trial_state::said::say_runs;
 use vec_deque::Begun;
 use vec_deque::Found;
 use vec_deque::Ordering;
@@ -19,7 +19,6 @@ use vec_deque::Refusal;
 use vec_deque::Searched;
 use vec_deque::Stepped;
 use vec_deque::Truth;
-use vec_deque::Written;
 
 // What a refused call says.
 fn say_refused(refusal: Refusal) -> Said {
@@ -80,14 +79,6 @@ pub fn pointed(point: Point) -> Said {
     match point {
         Point::At(place) => say_number(0, 0, said::COUNT, place),
         Point::Refused(refusal) => say_refused(refusal),
-    }
-}
-
-// What image writing says; refused, it still shows a count.
-pub fn written(written: Written) -> Said {
-    match written {
-        Written::Bytes(count) => say_number(0, 0, said::COUNT, count),
-        Written::Refused(refusal) => say_number(number_of(refusal), 0, said::COUNT, 0),
     }
 }
 

@@ -1,8 +1,8 @@
 // The calls that set a state.
-use trial_calls::Kept;
-use trial_calls::Queues;
-use trial_calls::quiet;
-use trial_calls::record;
+use trial_state::Kept;
+use trial_state::Queues;
+use trial_state::quiet;
+use trial_state::record;
 use trial_text::word;
 use turns::Holding;
 use vec_deque::Drain;

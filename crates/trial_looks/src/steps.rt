@@ -1,10 +1,10 @@
 // The walks.
 use crate::replies;
-use trial_calls::Kept;
-use trial_calls::Walking;
-use trial_calls::said::Said;
-use trial_calls::said::say_done;
-use trial_calls::said::say_nothing;
+use trial_state::Kept;
+use trial_state::Walking;
+use trial_state::said::Said;
+use trial_state::said::say_done;
+use trial_state::said::say_nothing;
 use turns::Holding;
 use vec_deque::Walk;
 

@@ -3,8 +3,8 @@ use mathlib.Core.Path.{_≡_}
 use native.Mathlib.Omega.{arith}
 use lib.ListN.{length, length-set}
 use borrow.Author.Needs.{needs}
-use Rattle.trial_lines.proofs.puts.put_word.Statement.{statement}
-use Rattle.trial_lines.proofs.puts.put_word.Tie as tie
+use Rattle.trial_puts.proofs.put_word.Statement.{statement}
+use Rattle.trial_puts.proofs.put_word.Tie as tie
 
 abbrev Inv-loop : tie.InvT-loop
 Inv-loop out₀ at word now₀ i₀ out now i = (i ≤ 6) × (length out ≡ length out₀)

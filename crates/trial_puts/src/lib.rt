@@ -1,11 +1,12 @@
 // A line of output: what the call gave, and the two queues.
-use trial_calls::Kept;
-use trial_calls::Queues;
-use trial_calls::Walking;
-use trial_calls::said;
-use trial_calls::said::Said;
-use trial_calls::said::letter;
-use trial_looks::written;
+use answers::number_of;
+use trial_state::Kept;
+use trial_state::Queues;
+use trial_state::Walking;
+use trial_state::said;
+use trial_state::said::Said;
+use trial_state::said::letter;
+use trial_state::said::say_number;
 use trial_text::TARGET;
 use trial_text::put_byte;
 use trial_text::put_number;
@@ -17,6 +18,7 @@ use trial_text::word;
 use turns::Holding;
 use vec_deque::Deque;
 use vec_deque::Drain;
+use vec_deque::Written;
 
 // Of more slots than this only a sum is shown.
 const SHOWN: usize = 64;
@@ -86,6 +88,14 @@ fn put_run(
     match number {
         29 => put_part(out, at, vec_deque::front_run(slots, queue, start, end)),
         _ => put_part(out, at, vec_deque::back_run(slots, queue, start, end)),
+    }
+}
+
+// What image writing says; refused, it still shows a count.
+fn written(written: Written) -> Said {
+    match written {
+        Written::Bytes(count) => say_number(0, 0, said::COUNT, count),
+        Written::Refused(refusal) => say_number(number_of(refusal), 0, said::COUNT, 0),
     }
 }
 
