@@ -71,7 +71,10 @@ fn times_of(slots: &mut [u32], rust: &mut [u32], src: usize, dst: usize, n: usiz
     Times { proved: t[0], pointer: t[1], proved_call: t[2], std_call: t[3], src, dst }
 }
 
-/// The pair of places with the largest ratio. What is above the aim is timed twice again, and the least counts: another program's turn is no copy's.
+/// What is above the aim is timed so many times again, and the least counts: another program's turn is no copy's.
+const AGAIN: usize = 5;
+
+/// The pair of places with the largest ratio.
 fn worst(n: usize, pairs: impl Iterator<Item = (usize, usize)>) -> Times {
     let mut slots: Vec<u32> = (0..16_000).collect();
     let mut rust = slots.clone();
@@ -81,7 +84,7 @@ fn worst(n: usize, pairs: impl Iterator<Item = (usize, usize)>) -> Times {
         (0..2).for_each(|_| rust.copy_within(src..src + n, dst));
         assert!(slots == rust, "copy {src} {dst} {n}: the two sides differ");
         let mut times = times_of(&mut slots, &mut rust, src, dst, n);
-        for _ in 0..2 {
+        for _ in 0..AGAIN {
             if n >= AIMED && times.ratio() > AIM {
                 let again = times_of(&mut slots, &mut rust, src, dst, n);
                 if again.ratio() < times.ratio() {
