@@ -21,7 +21,7 @@ use Rattle.rules.specs.Tests.{ask, unless}
 use Rattle.queue.specs.declared.Refusal.{Refusal}
 use Rattle.queue.specs.declared.Refusal.the-variants.{Slots, Record}
 use Rattle.queue.specs.declared.Checked.{Checked}
-use Rattle.queue.specs.declared.Checked.the-variants.{Good as Passed, Refused as Failed}
+use Rattle.queue.specs.declared.Checked.the-variants.{Refused as Failed}
 
 module _ (c : ℕ) (d : Drain) where
   -- a test that passes where the record is good, and only there, is the test of the record
@@ -41,7 +41,7 @@ module _ (c : ℕ) (d : Drain) where
   pub last-test : goodHead c (d .head) ≡ true → d .start + d .drained + d .tail ≤ c → d .start ≤ d .idx → d .idx ≤ d .start + d .drained
       → leb (d .remaining) (d .drained - (d .idx - d .start)) ≡ goodDrain c d
   last-test head fits from upto =
-      decided _ (λ t. record { head = head-ok c (d .head) (rw head tt); fits = fits; from = from; upto = omega (arith, leb→le (d .remaining) _ t) }) (λ t g. omega (arith, nleb→lt (d .remaining) _ t))
+      decided _ (λ t. record { whole = record { placed = head-ok c (d .head) (rw head tt); fits = fits }; from = from; upto = omega (arith, leb→le (d .remaining) _ t) }) (λ t g. omega (arith, nleb→lt (d .remaining) _ t))
 
   -- ---- one law for each return of `check_drain`
 

@@ -14,10 +14,10 @@ use Rattle.rules.proofs.Drains.{drain-ok}
 use Rattle.rules.proofs.Refusals.{queue-stop, queue-go}
 use Rattle.rules.proofs.Slots.{getD-listOf}
 use Rattle.rules.proofs.Tests.{unless-stop, unless-go}
-use Rattle.rules.specs.Drains.{Drain, opened, onDrain, wholeList, spread, fromFront, fromBack}
+use Rattle.rules.specs.Drains.{Drain, opened, onDrain, spread, fromFront, fromBack, asOpened}
 use Rattle.rules.specs.Outcome.{shut, told, doOpen, unchanged, drawn, Outcome, handsOver, doNext, nextOf, doNextBack, nextBackOf}
 use Rattle.rules.specs.Places.{place}
-use Rattle.rules.specs.Records.{Rec}
+use Rattle.rules.specs.Records.{Rec, held}
 use Rattle.rules.specs.Refusals.{onQueue, inRange, onRange}
 use Rattle.rules.specs.Tests.{unless}
 use Rattle.queue.specs.declared.Refusal.{Refusal}
@@ -62,14 +62,14 @@ module _ (b : List ℕ) (d : Drain) (first : onDrain (length b) d ≡ 0) where
     draws-none none-done z = rw (first, ap step z, none-done)
 
     -- v, the element at position i of the list in the slots, is handed over
-    draws-some : (i v : ℕ) (d′ : Drain) → step (suc (d .remaining - 1)) ≡ handsOver b d′ (getD (wholeList b d) i 0) → i < spread d → d .remaining ≢ 0
+    draws-some : (i v : ℕ) (d′ : Drain) → step (suc (d .remaining - 1)) ≡ handsOver b d′ (getD (held b (asOpened d)) i 0) → i < spread d → d .remaining ≢ 0
         → v ≡ getD b (place (length b) (d .head) i) 0
         → (record { refused = 0; moved = 0; held = drawn d′; handed = some v }, b) ≡ told (unless (onDrain (length b) d) (step (d .remaining)) (unchanged b (drawn d) (onDrain (length b) d)))
-    unfolding handsOver unless wholeList spread
+    unfolding handsOver unless held
     draws-some i v d′ done in-list some-left from-slot =
         let g = drain-ok (length b) d first .1 in
         let many : d .remaining ≡ suc (d .remaining - 1) = omega arith in
-        rw (first, from-slot ∙ sym (getD-listOf b (d .head) (omega arith) _ i (g .fits) in-list), ap step many, done)
+        rw (first, from-slot ∙ sym (getD-listOf b (d .head) (omega arith) _ i (g .whole .fits) in-list), ap step many, done)
 
   -- `next` and `next_back` by these
   pub next-none : d .remaining ≡ 0 → (record { refused = 0; moved = 0; held = drawn d; handed = none }, b) ≡ told (doNext b d)
@@ -82,14 +82,14 @@ module _ (b : List ℕ) (d : Drain) (first : onDrain (length b) d ≡ 0) where
 
   pub next-some : (v : ℕ) (d′ : Drain) → d′ ≡ fromFront d → d .remaining ≢ 0 → v ≡ getD b (place (length b) (d .head) (d .idx)) 0
       → (record { refused = 0; moved = 0; held = drawn d′; handed = some v }, b) ≡ told (doNext b d)
-  unfolding doNext nextOf spread
+  unfolding doNext nextOf
   next-some v d′ made some-left from-slot =
       let g = drain-ok (length b) d first .1 in
       rw made (draws-some (nextOf b d) (d .idx) v (fromFront d) refl (omega arith) some-left from-slot)
 
   pub next-back-some : (v : ℕ) (d′ : Drain) → d′ ≡ fromBack d → d .remaining ≢ 0 → v ≡ getD b (place (length b) (d .head) (d .idx + (d .remaining - 1))) 0
       → (record { refused = 0; moved = 0; held = drawn d′; handed = some v }, b) ≡ told (doNextBack b d)
-  unfolding doNextBack nextBackOf spread
+  unfolding doNextBack nextBackOf
   next-back-some v d′ made some-left from-slot =
       let g = drain-ok (length b) d first .1 in
       rw made (draws-some (nextBackOf b d) (d .idx + (d .remaining - 1)) v (fromBack d) refl (omega arith) some-left from-slot)

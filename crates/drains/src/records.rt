@@ -7,11 +7,13 @@ use queue::Refusal;
 ghost use mathlib.Core.Bool.{true};
 ghost use mathlib.Core.Path.{_≡_};
 ghost use Prim.Native.Nat.{_+_, _<_, _≤_};
-ghost use Rattle.rules.specs.Drains.{goodDrain, onDrain, opened, fromFront, fromBack};
+ghost use lib.Dec.{eqb};
+ghost use Rattle.rules.specs.Drains.{goodDrain, onDrain, opened, fromFront, fromBack, spread, asOpened};
+ghost use Rattle.rules.specs.Records.{stepped};
 ghost use Rattle.rules.specs.Refusals.{goodHead};
+ghost use Rattle.rules.specs.Tests.{whether};
 ghost use Rattle.queue.specs.Answers.{recOf, numberIn};
 ghost use Rattle.drains.specs.Answers.{drainOf};
-ghost use Rattle.drains.specs.Shut.{shutFrom};
 
 // Whether the parts of the drain's queue fit so many slots and what remains lies in the drained range, where the head is good. The numbers may be any: no sum
 // is made before it is known to fit.
@@ -116,14 +118,23 @@ pub fn from_back(d: Drain) -> Drain
     }
 }
 
+// The queue's record as the drain was opened.
+fn as_opened(d: Drain) -> Deque
+    requires { ⌜ spread (drainOf d) < 18446744073709551616 ⌝ }
+    ensures { λ r. ⌜ recOf r ≡ asOpened (drainOf d) ⌝ }
+{
+    let head = d.head;
+    Deque {
+        head,
+        len: d.start + d.drain_len + d.tail_len,
+    }
+}
+
 // The queue's record once the drain is closed and the elements that are left begin at `head`.
 pub fn closed(d: Drain, head: WrappedIndex) -> Deque
-    requires { ⌜ d .start + d .«tail_len» < 18446744073709551616 ⌝ }
-    ensures { λ r. ⌜ recOf r ≡ shutFrom (drainOf d) (head .0) ⌝ }
+    requires { ⌜ spread (drainOf d) < 18446744073709551616 ⌝ }
+    ensures { λ r. ⌜ recOf r ≡ stepped (asOpened (drainOf d)) (whether (eqb (d .start + d .«tail_len») 0) 0 (head .0)) (d .start + d .«tail_len») ⌝ }
 {
     let len = d.start + d.tail_len;
-    Deque {
-        head: holes::head_over(head, len),
-        len,
-    }
+    queue::stepped(as_opened(d), holes::head_over(head, len), len)
 }

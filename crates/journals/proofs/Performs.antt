@@ -11,7 +11,7 @@ use Rattle.rules.proofs.Refusals.{slots-asks, slots-ok}
 use Rattle.rules.proofs.Tests.{by-either}
 use Rattle.rules.specs.Drains.{Drain, opened, onDrain}
 use Rattle.rules.specs.Journals.{closing, doEntry}
-use Rattle.rules.specs.Outcome.{Answer, Outcome, Held, shut, drawn, told, doOpen, doClose, closed, unchanged}
+use Rattle.rules.specs.Outcome.{Answer, Outcome, Held, shut, drawn, told, doOpen, doClose, accepted, unchanged}
 use Rattle.rules.specs.Records.{Rec}
 use Rattle.rules.specs.Refusals.{onQueue, onRange}
 use Rattle.rules.specs.Tests.{unless}
@@ -67,7 +67,7 @@ module _ (b : List ℕ) (r : Rec) (s e : ℕ) (a : Answer) (d : Drain) (opens : 
       opens
 
   pub closes-free : doClose b d .answer .refused ≡ 0
-  unfolding doClose unless closed
+  unfolding doClose unless accepted
   closes-free = rw just-opened
 
 -- ---- a drain that is closed as soon as it is open: the returns

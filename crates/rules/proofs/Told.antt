@@ -33,14 +33,20 @@ module _ (b : List ℕ) (r : Rec) (R : Rule) where
   unfolding refusal
   own-refused n ne first own = stopped n ne (queue-go (length b) r _ first ∙ own)
 
+  -- accepted: a moved count, a record, what is handed over and slots as the rule gives them
+  pub accepted-as : (m h n : ℕ) (r′ : Rec) (v : Option ℕ) (b′ : List ℕ) → r′ ≡ stepped r h n
+      → h ≡ R .head (length b) (r .head) (r .len) (held b r) → n ≡ R .len (r .len) (held b r) → m ≡ R .moved (r .len) (held b r) → v ≡ R .handed (held b r)
+      → b′ ≡ lay b h (after R (held b r)) → (record { refused = 0; moved = m; held = shut r′; handed = v }, b′) ≡ told (accepted b r R)
+  unfolding accepted recAfter stepped
+  accepted-as m h n r′ v b′ made at-head at-len at-moved at-handed at-slots = rw (at-slots, made, at-handed, at-moved, at-len, at-head)
+
   module _ (first : onQueue (length b) r 0 ≡ 0) (own : R .own (length b) (r .len) ≡ 0) where
-    -- accepted: a moved count, a record, what is handed over and slots as the rule gives them
     pub accepts : (m h n : ℕ) (r′ : Rec) (v : Option ℕ) (b′ : List ℕ) → r′ ≡ stepped r h n
         → h ≡ R .head (length b) (r .head) (r .len) (held b r) → n ≡ R .len (r .len) (held b r) → m ≡ R .moved (r .len) (held b r) → v ≡ R .handed (held b r)
         → b′ ≡ lay b h (after R (held b r)) → (record { refused = 0; moved = m; held = shut r′; handed = v }, b′) ≡ told (doRule b r R)
-    unfolding doRule refusal unless accepted recAfter stepped
+    unfolding doRule refusal unless
     accepts m h n r′ v b′ made at-head at-len at-moved at-handed at-slots =
-        rw (queue-go (length b) r _ first ∙ own, at-slots, made, at-handed, at-moved, at-len, at-head)
+        rw (queue-go (length b) r _ first ∙ own) (accepted-as m h n r′ v b′ made at-head at-len at-moved at-handed at-slots)
 
     -- accepted, and there was nothing to do
     pub accepts-same : R .head (length b) (r .head) (r .len) (held b r) ≡ r .head → R .len (r .len) (held b r) ≡ r .len → R .moved (r .len) (held b r) ≡ 0
