@@ -11,14 +11,14 @@ use Rattle.queue.proofs.Checks.{failed-number}
 use Rattle.queue.proofs.Numbers.{some-number}
 use Rattle.queue.specs.Answers.{numberIn, numberOf}
 use Rattle.rules.proofs.Drains.{drain-ok}
-use Rattle.rules.proofs.Refusals.{queue-stop, queue-go}
+use Rattle.rules.proofs.Refusals.{change-stop, change-go}
 use Rattle.rules.proofs.Slots.{getD-listOf}
 use Rattle.rules.proofs.Tests.{unless-stop, unless-go}
 use Rattle.rules.specs.Drains.{Drain, opened, onDrain, spread, fromFront, fromBack, asOpened}
 use Rattle.rules.specs.Outcome.{shut, told, doOpen, unchanged, drawn, Outcome, handsOver, doNext, nextOf, doNextBack, nextBackOf}
 use Rattle.rules.specs.Places.{place}
 use Rattle.rules.specs.Records.{Rec, held}
-use Rattle.rules.specs.Refusals.{onQueue, inRange, onRange}
+use Rattle.rules.specs.Refusals.{onChange, inRange, onTaking}
 use Rattle.rules.specs.Tests.{unless}
 use Rattle.queue.specs.declared.Refusal.{Refusal}
 use Rattle.queue.specs.declared.Refusal.the-variants.{Position}
@@ -29,26 +29,26 @@ use Rattle.queue.specs.declared.Checked.the-variants.{Refused as Failed}
 
 module _ (b : List ℕ) (r : Rec) (s e : ℕ) where
   -- refused: the same record, and nothing is written
-  stopped : (n : ℕ) → n ≢ 0 → onRange (length b) r s e ≡ n → (record { refused = n; moved = 0; held = shut r; handed = none }, b) ≡ told (doOpen b r s e)
+  stopped : (n : ℕ) → n ≢ 0 → onTaking (length b) r s e ≡ n → (record { refused = n; moved = 0; held = shut r; handed = none }, b) ≡ told (doOpen b r s e)
   unfolding doOpen unchanged
   stopped n ne z = rw (z, unless-stop n _ _ ne)
 
   -- by the tests of slots and record, whose answer is t
-  pub open-first : (t : Checked) → numberIn t ≡ onQueue (length b) r 0 → (x : Refusal) → t ≡ Failed x
+  pub open-first : (t : Checked) → numberIn t ≡ onChange (length b) r 0 → (x : Refusal) → t ≡ Failed x
       → (record { refused = numberOf x; moved = 0; held = shut r; handed = none }, b) ≡ told (doOpen b r s e)
-  unfolding onRange
-  open-first t asked x f = stopped (numberOf x) (some-number x) (queue-stop (length b) r _ _ (some-number x) (failed-number t x _ asked f))
+  unfolding onTaking
+  open-first t asked x f = stopped (numberOf x) (some-number x) (change-stop (length b) r _ _ (some-number x) (failed-number t x _ asked f))
 
-  module _ (first : onQueue (length b) r 0 ≡ 0) where
+  module _ (first : onChange (length b) r 0 ≡ 0) where
     -- by the range
     pub open-range : inRange (r .len) s e 0 ≡ 3 → (record { refused = numberOf Position; moved = 0; held = shut r; handed = none }, b) ≡ told (doOpen b r s e)
-    unfolding onRange numberOf
-    open-range z = stopped 3 (λ e. omega arith) (queue-go (length b) r _ first ∙ z)
+    unfolding onTaking numberOf
+    open-range z = stopped 3 (λ e. omega arith) (change-go (length b) r _ first ∙ z)
 
     -- accepted: the drain's record, and nothing is written
     pub opens : (d : Drain) → s ≤ e → e ≤ r .len → d ≡ opened r s e → (record { refused = 0; moved = 0; held = drawn d; handed = none }, b) ≡ told (doOpen b r s e)
-    unfolding onRange doOpen unchanged
-    opens d le le′ made = rw (queue-go (length b) r _ first ∙ range-in (r .len) s e 0 le le′, unless-go, made)
+    unfolding onTaking doOpen unchanged
+    opens d le le′ made = rw (change-go (length b) r _ first ∙ range-in (r .len) s e 0 le le′, unless-go, made)
 
 -- ---- handing over
 

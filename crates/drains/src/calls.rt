@@ -21,7 +21,7 @@ pub fn drain(slots: &[u32], q: Deque, start: usize, end: usize) -> Opened
     ensures { λ r. ⌜ (ofOpened r, now (slots .entry)) ≡ told (doOpen (now (slots .entry)) (recOf q) start end) ⌝ }
 {
     let cap = slots.len();
-    if let Checked::Refused(refusal) = queue::check(cap, q) {
+    if let Checked::Refused(refusal) = queue::check_change(cap, q) {
         return Opened::Refused {
             refusal,
             queue: q,

@@ -15,7 +15,7 @@ pub fn pop_front(slots: &[u32], q: Deque) -> Handed
     ensures { λ r. ⌜ (ofHanded r, now (slots .entry)) ≡ told (doRule (now (slots .entry)) (recOf q) popFront) ⌝ }
 {
     let cap = slots.len();
-    if let Checked::Refused(refusal) = queue::check(cap, q) {
+    if let Checked::Refused(refusal) = queue::check_change(cap, q) {
         return Handed::Refused {
             refusal,
             queue: q,
@@ -42,7 +42,7 @@ pub fn pop_back(slots: &[u32], q: Deque) -> Handed
     ensures { λ r. ⌜ (ofHanded r, now (slots .entry)) ≡ told (doRule (now (slots .entry)) (recOf q) popBack) ⌝ }
 {
     let cap = slots.len();
-    if let Checked::Refused(refusal) = queue::check(cap, q) {
+    if let Checked::Refused(refusal) = queue::check_change(cap, q) {
         return Handed::Refused {
             refusal,
             queue: q,

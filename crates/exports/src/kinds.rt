@@ -35,7 +35,7 @@ pub fn test_of_kind(kind: u32, k: u32) -> Asked
 fn refused_kind(cap: usize, q: Deque) -> Refusal
     ensures { λ r. ⌜ numberOf r ≡ refusedKind cap (recOf q) ⌝ }
 {
-    if let Checked::Refused(refusal) = queue::check(cap, q) {
+    if let Checked::Refused(refusal) = queue::check_change(cap, q) {
         return refusal;
     }
     Refusal::Position

@@ -13,7 +13,7 @@ use Rattle.rules.specs.Drains.{Drain, opened, onDrain}
 use Rattle.rules.specs.Journals.{closing, doEntry}
 use Rattle.rules.specs.Outcome.{Answer, Outcome, Held, shut, drawn, told, doOpen, doClose, accepted, unchanged}
 use Rattle.rules.specs.Records.{Rec}
-use Rattle.rules.specs.Refusals.{onQueue, onRange}
+use Rattle.rules.specs.Refusals.{onChange, onQueue, onTaking}
 use Rattle.rules.specs.Tests.{unless}
 use Rattle.journals.specs.declared.records.Operation.{Operation}
 use Rattle.queue.specs.Answers.{answer, numberOf, recOf}
@@ -56,9 +56,9 @@ module _ (o : Outcome) (a : Answer) (b : List ℕ) (e : (a, b) ≡ told o) where
 -- a drain that is just open can be closed
 module _ (b : List ℕ) (r : Rec) (s e : ℕ) (a : Answer) (d : Drain) (opens : (a, b) ≡ told (doOpen b r s e)) (free : a .refused ≡ 0) (held : a .held ≡ drawn d) where
   just-opened : onDrain (length b) d ≡ 0
-  unfolding doOpen unchanged onRange onQueue
+  unfolding doOpen unchanged onTaking onChange onQueue
   just-opened =
-      by-either (onRange (length b) r s e) (λ (o : Outcome). (a, b) ≡ told o → onDrain (length b) d ≡ 0)
+      by-either (onTaking (length b) r s e) (λ (o : Outcome). (a, b) ≡ told o → onDrain (length b) d ≡ 0)
       (λ z q.
       let f : drawn d ≡ drawn (opened r s e) = sym held ∙ ap (λ (x : Answer × List ℕ). x .0 .held) q in
       let g : d ≡ opened r s e = cc in

@@ -58,7 +58,7 @@ pub fn remove(slots: &mut [u32], q: Deque, index: usize) -> Handed
     ensures { λ r. ⌜ (ofHanded r, now (slots .exit)) ≡ told (doRule (now (slots .entry)) (recOf q) (removeAt index)) ⌝ }
 {
     let cap = slots.len();
-    if let Checked::Refused(refusal) = queue::check(cap, q) {
+    if let Checked::Refused(refusal) = queue::check_change(cap, q) {
         return Handed::Refused {
             refusal,
             queue: q,

@@ -7,7 +7,7 @@ use lib.ListN.{length}
 use Rattle.rules.proofs.Drains.{GoodDrain, drain-true, closed-placed, kept-length}
 use Rattle.rules.proofs.Held.{length-held, stepped-good, laid}
 use Rattle.rules.proofs.Lawful.{Lawful}
-use Rattle.rules.proofs.Refusals.{Good, record-true, queue-ok}
+use Rattle.rules.proofs.Refusals.{Good, record-true, change-ok}
 use Rattle.rules.specs.Drains.{Drain, during, asOpened, closeDrain}
 use Rattle.rules.specs.Outcome.{Held, shut, drawn, refusal, recAfter}
 use Rattle.rules.specs.Records.{Rec, held, stepped}
@@ -45,7 +45,7 @@ left-held b r R L = laid b (recAfter b r R) (after R (held b r)) (L .good) (L .l
 pub op-leaves : (b : List ℕ) (r : Rec) (R : Rule) → Lawful R → refusal (length b) r R ≡ 0 → Leaves b r R
 unfolding refusal recAfter stepped
 op-leaves b r R L e =
-    let q = queue-ok (length b) r _ e in
+    let q = change-ok (length b) r _ e in
     let n = length-held b r in
     let long : length (held b r) ≤ length b = rw n (q .0 .fits) in
     let own : R .own (length b) (length (held b r)) ≡ 0 = rw n (q .1) in

@@ -11,7 +11,7 @@ use Rattle.rules.proofs.Fit.{Fit, fit-shut, stands-shut, fit-drawn, sta
 use Rattle.rules.proofs.Held.{length-held, new-good, laid}
 use Rattle.rules.proofs.Images.{length-elements, reading-fits}
 use Rattle.rules.proofs.Lawful.{Lawful}
-use Rattle.rules.proofs.Refusals.{Good, queue-ok}
+use Rattle.rules.proofs.Refusals.{Good, change-ok}
 use Rattle.rules.proofs.Slots.{length-lay}
 use Rattle.rules.proofs.Tests.{by-refusal}
 use Rattle.rules.specs.Calls.{rule}
@@ -21,7 +21,7 @@ use Rattle.rules.specs.Images.{laidOut, howMany, elementsIn}
 use Rattle.rules.specs.Makes.{madeWith, noneMade, fresh, readImage}
 use Rattle.rules.specs.Outcome.{Held, Outcome, unchanged, shut, refusal, accepted, recAfter, doRule, drawn, doOpen, handsOver, nextOf, nextBackOf, doNext, doNextBack, doClose}
 use Rattle.rules.specs.Records.{Rec, held, newRec}
-use Rattle.rules.specs.Refusals.{onSlots, onLayout, room, mostSlots, onRange}
+use Rattle.rules.specs.Refusals.{onSlots, onLayout, room, mostSlots, onTaking}
 use Rattle.rules.specs.Rule.{Rule, after}
 use Rattle.rules.specs.Sequences.{stands, making, madeOr, Do, doOne, op, freshly, reading, opening, next, nextBack, close}
 use Rattle.rules.specs.Slots.{lay}
@@ -80,7 +80,7 @@ module _ (b : List ℕ) (r : Rec) (g : Good (length b) r) where
   unfolding refusal
   op-accepted R L e =
       accepted-keeps b (shut r) r R (op-leaves b r R L e)
-      (λ x. rw (stands-shut b r g) (L .balance x (length b) (held b r) (rw length-held (queue-ok (length b) r _ e .1))))
+      (λ x. rw (stands-shut b r g) (L .balance x (length b) (held b r) (rw length-held (change-ok (length b) r _ e .1))))
 
   keeps-op : (R : Rule) → Lawful R → Keeps b (shut r) (doRule b r R)
   unfolding doRule
@@ -110,7 +110,7 @@ module _ (b : List ℕ) (r : Rec) (g : Good (length b) r) where
   keeps-reading s = made-or-not (onSlots (length b) (onLayout (laidOut s) (room (length b) (howMany s)))) (elementsIn s)
       (λ e. rw (length-elements s) (reading-fits (length b) s e))
 
-  open-keeps : (s e : ℕ) → onRange (length b) r s e ≡ 0 → Keeps b (shut r) (unchanged b (drawn (opened r s e)) 0)
+  open-keeps : (s e : ℕ) → onTaking (length b) r s e ≡ 0 → Keeps b (shut r) (unchanged b (drawn (opened r s e)) 0)
   unfolding unchanged
   open-keeps s e z =
       let d = opened-good (length b) r s e z in
@@ -122,7 +122,7 @@ module _ (b : List ℕ) (r : Rec) (g : Good (length b) r) where
 
   keeps-open : (s e : ℕ) → Keeps b (shut r) (doOpen b r s e)
   unfolding doOpen
-  keeps-open s e = by-refusal (onRange (length b) r s e) (Keeps b (shut r)) (open-keeps s e) (keeps-same b (shut r) _ (fit-shut g))
+  keeps-open s e = by-refusal (onTaking (length b) r s e) (Keeps b (shut r)) (open-keeps s e) (keeps-same b (shut r) _ (fit-shut g))
 
 module _ (b : List ℕ) (d : Drain) (few : length b ≤ mostSlots) (g : GoodDrain (length b) d) where
   -- the drain, now d′, has handed v over

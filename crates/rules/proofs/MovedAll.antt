@@ -25,7 +25,7 @@ use Rattle.rules.specs.Makes.{madeWith, noneMade, fresh, readImage}
 use Rattle.rules.specs.Moves.{strays, marksFrom, placesFrom, standing, marksOf, placesOf, marksAfter, marked, Marked}
 use Rattle.rules.specs.Outcome.{Held, Outcome, refusal, shut, accepted, unchanged, drawn, doRule, doOpen, handsOver, nextOf, nextBackOf, doNext, doNextBack, doClose}
 use Rattle.rules.specs.Records.{Rec}
-use Rattle.rules.specs.Refusals.{mostSlots, onSlots, onLayout, room, onRange}
+use Rattle.rules.specs.Refusals.{mostSlots, onSlots, onLayout, room, onTaking}
 use Rattle.rules.specs.Rule.{Rule}
 use Rattle.rules.specs.Sequences.{Side, Do, op, opening, making, next, nextBack, close, freshly, reading, doOne}
 use Rattle.rules.specs.Tests.{unless}
@@ -108,7 +108,7 @@ unfolding during handable opened
 during-all r x e l le le′ =
     rw (← drop-drop (e - x) x l) (ap (λ (m : List ℕ). take x l ++ m) (take-append-drop (e - x) (drop x l)) ∙ take-append-drop x l)
 
-opened-counted : (s : Side) (b : List ℕ) (r : Rec) → Good (length b) r → (x e : ℕ) → onRange (length b) r x e ≡ 0
+opened-counted : (s : Side) (b : List ℕ) (r : Rec) → Good (length b) r → (x e : ℕ) → onTaking (length b) r x e ≡ 0
     → Counted s b (shut r) (opening x e) (unchanged b (drawn (opened r x e)) 0)
 unfolding unchanged marksAfter marksOf placesOf opened during
 opened-counted s b r g x e z =
@@ -133,7 +133,7 @@ module _ (s : Side) (b : List ℕ) where
 
     opening-counted : (x e : ℕ) → doOpen b r x e .answer .refused ≡ 0 → Counted s b (shut r) (opening x e) (doOpen b r x e)
     unfolding doOpen
-    opening-counted x e z = counted (shut r) (opening x e) (onRange (length b) r x e) (unchanged b (drawn (opened r x e)) 0) z (opened-counted s b r g x e)
+    opening-counted x e z = counted (shut r) (opening x e) (onTaking (length b) r x e) (unchanged b (drawn (opened r x e)) 0) z (opened-counted s b r g x e)
 
     -- a record is made over elements from outside: none stood before
     making-counted : (k : Do) (l : List ℕ) (n : ℕ) → marksAfter (shut r) k (marksOf s b (shut r)) ≡ map (marked .made) l

@@ -11,7 +11,7 @@ use Rattle.rules.proofs.Drains.{GoodDrain}
 use Rattle.rules.proofs.Marks.{stretch-none, stretch-stays}
 use Rattle.rules.proofs.Moved.{cut-moved, goes, head-goes, MovedTrue, MovedAt}
 use Rattle.rules.proofs.Places.{place-good, place-place}
-use Rattle.rules.proofs.Refusals.{queue-ok, range-ok, room-ok}
+use Rattle.rules.proofs.Refusals.{change-ok, range-ok, room-ok}
 use Rattle.rules.proofs.Tests.{cases, by-test, is-true, is-false, by-test₂, neqb→ne}
 use Rattle.rules.specs.Drains.{Drain, closedMoved, keptList, closedHead, closeDrain, asOpened}
 use Rattle.rules.specs.Moves.{strays, marksFrom, marked, placesFrom}
@@ -62,7 +62,7 @@ module _ (d : Side) (b : List ℕ) (h n : ℕ) (good : h ≤ length b - 1) (fits
 pub splice-moved : (s e : ℕ) (vs : List ℕ) → MovedTrue (splice s e vs)
 unfolding refusal recAfter stepped splice whether
 splice-moved s e vs d b r z =
-    let q = queue-ok (length b) r _ z in
+    let q = change-ok (length b) r _ z in
     let g = q .0 in
     let o = range-ok (r .len) s e _ (q .1) in
     let room = room-ok (length b) _ (o .2) in

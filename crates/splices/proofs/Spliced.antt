@@ -16,7 +16,7 @@ use Rattle.rules.proofs.Told.{own-refused, accepts}
 use Rattle.rules.specs.Outcome.{shut, told, doRule}
 use Rattle.rules.specs.Places.{place}
 use Rattle.rules.specs.Records.{Rec, stepped, held}
-use Rattle.rules.specs.Refusals.{onQueue, inRange, room}
+use Rattle.rules.specs.Refusals.{onChange, inRange, room}
 use Rattle.rules.specs.Rule.{numbers}
 use Rattle.rules.specs.Slots.{lay, listOf}
 use Rattle.rules.specs.Splice.{splice}
@@ -24,7 +24,7 @@ use Rattle.rules.specs.Tests.{whether}
 use Rattle.splices.specs.Rooms.{SpliceMade, splicedHead, splicedMoved}
 use Rattle.queue.specs.declared.Refusal.the-variants.{Position, Room}
 
-module _ (b : List ℕ) (r : Rec) (s e : ℕ) (vs : List ℕ) (first : onQueue (length b) r 0 ≡ 0) where
+module _ (b : List ℕ) (r : Rec) (s e : ℕ) (vs : List ℕ) (first : onChange (length b) r 0 ≡ 0) where
   -- no range of positions
   pub splice-range : inRange (r .len) s e (room (length b) (s + length vs + (r .len - e))) ≡ 3
       → (record { refused = numberOf Position; moved = 0; held = shut r; handed = none }, b) ≡ told (doRule b r (splice s e vs))

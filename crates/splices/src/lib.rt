@@ -57,7 +57,7 @@ pub fn splice(slots: &mut [u32], q: Deque, start: usize, end: usize, values: &[u
     ensures { λ r. ⌜ (ofChange r, now (slots .exit)) ≡ told (doRule (now (slots .entry)) (recOf q) (splice start end (now (values .entry)))) ⌝ }
 {
     let cap = slots.len();
-    if let Checked::Refused(refusal) = queue::check(cap, q) {
+    if let Checked::Refused(refusal) = queue::check_change(cap, q) {
         return Change::Refused {
             refusal,
             queue: q,

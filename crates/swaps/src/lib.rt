@@ -31,7 +31,7 @@ pub fn swap(slots: &mut [u32], q: Deque, i: usize, j: usize) -> Change
     ensures { λ r. ⌜ (ofChange r, now (slots .exit)) ≡ told (doRule (now (slots .entry)) (recOf q) (exchange i j)) ⌝ }
 {
     let cap = slots.len();
-    if let Checked::Refused(refusal) = queue::check(cap, q) {
+    if let Checked::Refused(refusal) = queue::check_change(cap, q) {
         return Change::Refused {
             refusal,
             queue: q,
@@ -68,7 +68,7 @@ pub fn swap_remove_front(slots: &mut [u32], q: Deque, index: usize) -> Handed
     ensures { λ r. ⌜ (ofHanded r, now (slots .exit)) ≡ told (doRule (now (slots .entry)) (recOf q) (swapRemoveFront index)) ⌝ }
 {
     let cap = slots.len();
-    if let Checked::Refused(refusal) = queue::check(cap, q) {
+    if let Checked::Refused(refusal) = queue::check_change(cap, q) {
         return Handed::Refused {
             refusal,
             queue: q,
@@ -97,7 +97,7 @@ pub fn swap_remove_back(slots: &mut [u32], q: Deque, index: usize) -> Handed
     ensures { λ r. ⌜ (ofHanded r, now (slots .exit)) ≡ told (doRule (now (slots .entry)) (recOf q) (swapRemoveBack index)) ⌝ }
 {
     let cap = slots.len();
-    if let Checked::Refused(refusal) = queue::check(cap, q) {
+    if let Checked::Refused(refusal) = queue::check_change(cap, q) {
         return Handed::Refused {
             refusal,
             queue: q,
