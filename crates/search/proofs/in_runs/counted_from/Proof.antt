@@ -1,9 +1,9 @@
--- `search::counted_from` meets its contract. Assumes nothing.
+-- `search::in_runs::counted_from` meets its contract. Assumes nothing.
 use mathlib.Core.Path.{sym, _∙_}
 use borrow.Author.Needs.{needs}
 use Rattle.search.proofs.Handed.{back-counted, front-counted}
-use Rattle.search.proofs.counted_from.Statement.{statement}
-use Rattle.search.proofs.counted_from.Tie as tie
+use Rattle.search.proofs.in_runs.counted_from.Statement.{statement}
+use Rattle.search.proofs.in_runs.counted_from.Tie as tie
 
 begins-with-requires : tie.Need-begins-with-requires
 begins-with-requires c κs = search needs

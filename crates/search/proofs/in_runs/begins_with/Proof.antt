@@ -1,9 +1,9 @@
--- `search::begins_with` meets its contract. Assumes nothing.
+-- `search::in_runs::begins_with` meets its contract. Assumes nothing.
 use mathlib.Core.Path.{_∙_}
 use borrow.Author.Needs.{needs}
 use Rattle.search.proofs.Handed.{begins-none, begins-some}
-use Rattle.search.proofs.begins_with.Statement.{statement}
-use Rattle.search.proofs.begins_with.Tie as tie
+use Rattle.search.proofs.in_runs.begins_with.Statement.{statement}
+use Rattle.search.proofs.in_runs.begins_with.Tie as tie
 
 returns : tie.Need-returns
 returns c = begins-none _ _ (c .if1 .taken)

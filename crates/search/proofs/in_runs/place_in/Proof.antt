@@ -1,4 +1,4 @@
--- `search::place_in` meets its contract: each step leaves the same end. Assumes nothing.
+-- `search::in_runs::place_in` meets its contract: each step leaves the same end. Assumes nothing.
 use mathlib.Core.Path.{sym, _∙_}
 use Prim.Native.Nat.{_≤_, _-_}
 use native.Mathlib.Omega.{arith}
@@ -7,8 +7,8 @@ use lib.ListN.{length}
 use Rattle.conditions.specs.Tests.{testOf}
 use Rattle.rules.specs.Conditions.{meets}
 use Rattle.search.proofs.Steps.{Halves, starts, goes-up, goes-down, ended}
-use Rattle.search.proofs.place_in.Statement.{statement}
-use Rattle.search.proofs.place_in.Tie as tie
+use Rattle.search.proofs.in_runs.place_in.Statement.{statement}
+use Rattle.search.proofs.in_runs.place_in.Tie as tie
 
 abbrev Inv-loop : tie.InvT-loop
 Inv-loop run test low₀ high₀ low high = (low ≤ high) × (high ≤ length run) × Halves (meets (testOf test)) run low high

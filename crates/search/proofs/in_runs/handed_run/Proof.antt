@@ -1,9 +1,9 @@
--- `search::handed_run` meets its contract. Assumes nothing.
+-- `search::in_runs::handed_run` meets its contract. Assumes nothing.
 use mathlib.Core.Path.{sym, _∙_}
 use borrow.Author.Needs.{needs}
 use Rattle.search.proofs.Handed.{back-handed, front-handed}
-use Rattle.search.proofs.handed_run.Statement.{statement}
-use Rattle.search.proofs.handed_run.Tie as tie
+use Rattle.search.proofs.in_runs.handed_run.Statement.{statement}
+use Rattle.search.proofs.in_runs.handed_run.Tie as tie
 
 begins-with-requires : tie.Need-begins-with-requires
 begins-with-requires c κs = search needs
