@@ -1,36 +1,42 @@
--- The two runs of a queue, copied one behind the other into other slots. Assumes nothing.
+-- A range of a queue, copied into other slots: straight, or its two runs one behind the other. Assumes nothing.
 use mathlib.Core.List.{List}
-use mathlib.Core.Path.{_≡_, _∙_, sym, ap, refl}
-use Prim.Native.Nat.{ℕ, _+_, _≤_, _-_, _<_}
+use mathlib.Core.Logic.{_≢_}
+use mathlib.Core.Path.{_≡_, ap, _∙_, sym, refl}
+use Prim.Native.Nat.{ℕ, _+_, _≤_, _<_, _-_}
 use native.Mathlib.Omega.{arith}
 use lib.ListN.{length, take, drop, length-take, length-drop}
 use Rattle.rules.proofs.Places.{place-low}
 use Rattle.rules.proofs.Refusals.{queue-ok}
-use Rattle.rules.proofs.Ring.{write-append, read-straight}
-use Rattle.rules.proofs.Slots.{length-lay, listOf-drop}
+use Rattle.rules.proofs.Ring.{read-straight, write-append}
+use Rattle.rules.proofs.Slots.{length-lay, lay-none}
 use Rattle.rules.specs.Places.{place}
 use Rattle.rules.specs.Records.{Rec, held}
 use Rattle.rules.specs.Refusals.{onQueue, mostSlots}
-use Rattle.rules.specs.Slots.{lay, listOf}
-use Rattle.runs.proofs.Whole.{read-round}
+use Rattle.rules.specs.Slots.{listOf, lay}
+use Rattle.runs.proofs.Whole.{range-held, read-round}
 
--- The elements of a good queue from position s on, of which there are some.
-module _ (b : List ℕ) (r : Rec) (s : ℕ) (good : onQueue (length b) r 0 ≡ 0) (within : s < r .len) where
+-- no element: nothing is written
+pub none-laid : (b : List ℕ) (d : ℕ) (l : List ℕ) (n : ℕ) → n ≡ 0 → b ≡ lay b d (take n l)
+none-laid b d l n none = rw none (sym (lay-none b d))
+
+-- The n elements of a good queue from position s on, of which there are some.
+module _ (b : List ℕ) (r : Rec) (s n : ℕ) (good : onQueue (length b) r 0 ≡ 0) (within : s + n ≤ r .len) (some : n ≢ 0) where
   -- their first place is a slot's
   pub first-in-slots : place (length b) (r .head) s < length b
   first-in-slots = let g = queue-ok (length b) r 0 good .0 in place-low (length b) (r .head) (omega arith) s (omega arith)
 
   -- they are those that stand from there on
-  pub later-held : listOf b (place (length b) (r .head) s) (r .len - s) ≡ drop s (held b r)
-  unfolding held
-  later-held = let g = queue-ok (length b) r 0 good .0 in sym (listOf-drop b (r .head) (omega arith) s (r .len) (omega arith) (omega arith))
+  pub range-there : (w : ℕ) → w ≡ place (length b) (r .head) s → listOf b w n ≡ take n (drop s (held b r))
+  range-there w at-w =
+      ap (λ (w : ℕ). listOf b w n) at-w ∙ range-held b r s n (queue-ok (length b) r 0 good .0) within (omega arith)
 
   -- and the slots from there on, where they end before the slots do
-  pub later-straight : (w e : ℕ) → w ≡ place (length b) (r .head) s → r .len - s ≤ length b - w → e ≡ w + (r .len - s) → take (e - w) (drop w b) ≡ drop s (held b r)
-  later-straight w e at-w room at-e =
-      let many : e - w ≡ r .len - s = omega arith in
-      let fits : w + (r .len - s) ≤ length b = omega (arith, first-in-slots) in
-      rw many (sym (read-straight (length b) b w (r .len - s) refl fits)) ∙ ap (λ (w : ℕ). listOf b w (r .len - s)) at-w ∙ later-held
+  pub range-straight : (w e : ℕ) → w ≡ place (length b) (r .head) s → n ≤ length b - w → e ≡ w + n
+      → take (e - w) (drop w b) ≡ take n (drop s (held b r))
+  range-straight w e at-w room at-e =
+      let many : e - w ≡ n = omega arith in
+      let fits : w + n ≤ length b = omega (arith, first-in-slots) in
+      rw many (sym (read-straight (length b) b w n refl fits)) ∙ range-there w at-w
 
 -- The n elements from place w on, which run past the last slot.
 module _ (b : List ℕ) (w n : ℕ) (in-slots : w < length b) (over : length b - w < n) (few : n ≤ length b) where

@@ -1,13 +1,13 @@
--- `joins::queues::copy_runs_apart` meets its contract. Assumes nothing.
+-- `crossings::copy_runs_apart` meets its contract. Assumes nothing.
 use mathlib.Core.Path.{sym, _∙_}
 use native.Mathlib.Omega.{arith}
-use lib.Seq.{length-take-le}
 use borrow.Author.Needs.{needs}
 use denote.Ref.{now}
-use Rattle.joins.proofs.Copied.{back-fits, both-laid}
+use lib.Seq.{length-take-le}
+use Rattle.crossings.proofs.Copied.{back-fits, both-laid}
 use Rattle.rules.specs.Slots.{lay, listOf}
-use Rattle.joins.proofs.queues.copy_runs_apart.Statement.{statement}
-use Rattle.joins.proofs.queues.copy_runs_apart.Tie as tie
+use Rattle.crossings.proofs.copy_runs_apart.Statement.{statement}
+use Rattle.crossings.proofs.copy_runs_apart.Tie as tie
 
 as-index-requires : tie.Need-as-index-requires
 as-index-requires c κs = search needs
