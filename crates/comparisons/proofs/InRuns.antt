@@ -1,4 +1,5 @@
--- Two lists in two runs each, front and back, front′ and back′: an element of a list, and one law for each way in which the functions over runs return. Assumes nothing.
+-- Lists in two runs, front and back, front′ and back′: an element, and a law for each return of the functions over runs.
+-- Assumes nothing.
 use mathlib.Core.Bool.{false}
 use mathlib.Core.List.{List, _++_}
 use mathlib.Core.Logic.{_≢_}
@@ -47,26 +48,42 @@ module _ (front back front′ back′ : List ℕ) where
     pub in-both : (n ≤ length front + length back) × (n ≤ length front′ + length back′)
     in-both = omega (arith, common-in l l′, length-append front back, length-append front′ back′)
 
-    pub same-told : length front + length back ≡ length front′ + length back′ → eqb n (length front + length back) ≡ same l l′
+    some-ours : n ≢ length front + length back → n < length l
+    some-ours ne = within-runs front back n (omega (arith, in-both))
+
+    some-theirs : n ≢ length front′ + length back′ → n < length l′
+    some-theirs ne = within-runs front′ back′ n (omega (arith, in-both))
+
+    pub same-told : length front + length back ≡ length front′ + length back′
+        → eqb n (length front + length back) ≡ same l l′
     same-told long =
         let c = length front + length back in
         cases (eqb n c)
-        (λ t. let e = eqb→eq n c t in rw (eq-eqb n c e) (both-same l l′ n is (past-runs front back n (omega arith)) (past-runs front′ back′ n (omega arith))))
-        (λ t. let ne = neqb→ne n c t in rw (ne-eqb n c ne) (differ-same l l′ n is (within-runs front back n (omega (arith, in-both))) (within-runs front′ back′ n (omega (arith, in-both)))))
+        (λ t.
+        let e = eqb→eq n c t in
+        rw (eq-eqb n c e)
+        (both-same l l′ n is (past-runs front back n (omega arith)) (past-runs front′ back′ n (omega arith))))
+        (λ t.
+        let ne = neqb→ne n c t in
+        rw (ne-eqb n c ne)
+        (differ-same l l′ n is (some-ours ne) (some-theirs (λ e. ne (e ∙ sym long)))))
 
     pub alike-told : n ≡ length front + length back → n ≡ length front′ + length back′ → sees alike ≡ sees (order l l′)
-    alike-told e e′ = ap sees (both-alike l l′ n is (past-runs front back n (omega arith)) (past-runs front′ back′ n (omega arith)))
+    alike-told e e′ =
+        ap sees (both-alike l l′ n is (past-runs front back n (omega arith)) (past-runs front′ back′ n (omega arith)))
 
     pub shorter-told : n ≡ length front + length back → n ≢ length front′ + length back′ → sees less ≡ sees (order l l′)
-    shorter-told e ne = ap sees (first-less l l′ n is (past-runs front back n (omega arith)) (within-runs front′ back′ n (omega (arith, in-both))))
+    shorter-told e ne = ap sees (first-less l l′ n is (past-runs front back n (omega arith)) (some-theirs ne))
 
-    pub longer-told : n ≢ length front + length back → n ≡ length front′ + length back′ → sees greater ≡ sees (order l l′)
-    longer-told ne e = ap sees (second-greater l l′ n is (within-runs front back n (omega (arith, in-both))) (past-runs front′ back′ n (omega arith)))
+    pub longer-told : n ≢ length front + length back → n ≡ length front′ + length back′
+        → sees greater ≡ sees (order l l′)
+    longer-told ne e = ap sees (second-greater l l′ n is (some-ours ne) (past-runs front′ back′ n (omega arith)))
 
     -- v and w are the first elements that differ
-    module _ (ne : n ≢ length front + length back) (ne′ : n ≢ length front′ + length back′) (v w : ℕ) (at-v : v ≡ getD l n 0) (at-w : w ≡ getD l′ n 0) where
+    module _ (ne : n ≢ length front + length back) (ne′ : n ≢ length front′ + length back′) (v w : ℕ)
+        (at-v : v ≡ getD l n 0) (at-w : w ≡ getD l′ n 0) where
       pub less-told : v < w → sees less ≡ sees (order l l′)
-      less-told lt = ap sees (differ-less l l′ n is (within-runs front back n (omega (arith, in-both))) (within-runs front′ back′ n (omega (arith, in-both))) (rw (← at-v, ← at-w) lt))
+      less-told lt = ap sees (differ-less l l′ n is (some-ours ne) (some-theirs ne′) (rw (← at-v, ← at-w) lt))
 
       pub greater-told : w ≤ v → sees greater ≡ sees (order l l′)
-      greater-told ge = ap sees (differ-greater l l′ n is (within-runs front back n (omega (arith, in-both))) (within-runs front′ back′ n (omega (arith, in-both))) (rw (← at-v, ← at-w) ge))
+      greater-told ge = ap sees (differ-greater l l′ n is (some-ours ne) (some-theirs ne′) (rw (← at-v, ← at-w) ge))

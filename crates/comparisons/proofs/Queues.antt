@@ -34,7 +34,8 @@ module _ (b : List ℕ) (r : Rec) (b′ : List ℕ) (r′ : Rec) where
   abbrev pub onBoth : ℕ
   onBoth = onQueue (length b) r (onQueue (length b′) r′ 0)
 
-  pub both-refused : {A : Type 0} (f : List ℕ → List ℕ → A) (t : Checked) → numberIn t ≡ onBoth → (x : Refusal) → t ≡ Failed x → refuses (numberOf x) ≡ lookAtBoth b r b′ r′ f
+  pub both-refused : {A : Type 0} (f : List ℕ → List ℕ → A) (t : Checked) → numberIn t ≡ onBoth → (x : Refusal)
+      → t ≡ Failed x → refuses (numberOf x) ≡ lookAtBoth b r b′ r′ f
   unfolding lookAtBoth
   both-refused f t asked x e = asks-refused _ _ x (failed-number t x _ asked e)
 

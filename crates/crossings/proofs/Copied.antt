@@ -20,10 +20,12 @@ pub none-laid : (b : List ℕ) (d : ℕ) (l : List ℕ) (n : ℕ) → n ≡ 0 �
 none-laid b d l n none = rw none (sym (lay-none b d))
 
 -- The n elements of a good queue from position s on, of which there are some.
-module _ (b : List ℕ) (r : Rec) (s n : ℕ) (good : onQueue (length b) r 0 ≡ 0) (within : s + n ≤ r .len) (some : n ≢ 0) where
+module _ (b : List ℕ) (r : Rec) (s n : ℕ) (good : onQueue (length b) r 0 ≡ 0) (within : s + n ≤ r .len)
+    (some : n ≢ 0) where
   -- their first place is a slot's
   pub first-in-slots : place (length b) (r .head) s < length b
-  first-in-slots = let g = queue-ok (length b) r 0 good .0 in place-low (length b) (r .head) (omega arith) s (omega arith)
+  first-in-slots =
+      let g = queue-ok (length b) r 0 good .0 in place-low (length b) (r .head) (omega arith) s (omega arith)
 
   -- they are those that stand from there on
   pub range-there : (w : ℕ) → w ≡ place (length b) (r .head) s → listOf b w n ≡ take n (drop s (held b r))
@@ -55,15 +57,20 @@ module _ (b : List ℕ) (w n : ℕ) (in-slots : w < length b) (over : length b -
   long-back = simp (length-take) (omega arith)
 
   -- The front run was copied into the slots b′ from d on. p is the place behind it.
-  module _ (b′ : List ℕ) (d p : ℕ) (b₁ : List ℕ) (in-ring : d < length b′) (fits : n ≤ length b′) (at-p : p ≡ place (length b′) d (length b - w)) (laid : b₁ ≡ lay b′ d front) where
+  module _ (b′ : List ℕ) (d p : ℕ) (b₁ : List ℕ) (in-ring : d < length b′) (fits : n ≤ length b′)
+      (at-p : p ≡ place (length b′) d (length b - w)) (laid : b₁ ≡ lay b′ d front) where
     -- the back run can be copied to there
     pub back-fits : length b′ ≤ mostSlots → (p < length b₁) × (length back ≤ length b₁) × (length b₁ ≤ mostSlots)
     back-fits few′ =
         let same : length b₁ ≡ length b′ = ap length laid ∙ length-lay b′ d front in
-        (omega (arith, place-low (length b′) d in-ring (length b - w) (omega arith)), omega (arith, long-back), omega arith)
+        let low = place-low (length b′) d in-ring (length b - w) (omega arith) in
+        (omega arith, omega (arith, long-back), omega arith)
 
     -- and then all stand from d on
     pub both-laid : (b₂ : List ℕ) → b₂ ≡ lay b₁ p back → b₂ ≡ lay b′ d (listOf b w n)
     both-laid b₂ then-laid =
         let behind : p ≡ place (length b′) d (length front) = at-p ∙ ap (place (length b′) d) (sym long-front) in
-        then-laid ∙ rw (laid, behind, length-lay) (sym (write-append (length b′) b′ d front back in-ring (omega (arith, long-front, long-back)))) ∙ ap (lay b′ d) (sym (read-round b w n in-slots over few))
+        let fit : length front ≤ length b′ = omega (arith, long-front) in
+        then-laid
+        ∙ rw (laid, behind, length-lay) (sym (write-append (length b′) b′ d front back in-ring fit))
+        ∙ ap (lay b′ d) (sym (read-round b w n in-slots over few))

@@ -41,7 +41,8 @@ module _ (b : List ℕ) (r : Rec) (b′ : List ℕ) (r′ : Rec) where
       let k = appends b r b′ r′ none-asked in
       let all = take-all (r′ .len) (held b′ r′) (omega (arith, length-held b′ r′)) in
       let g = k .ok .good in
-      let behind = lay-behind-good b (r .head) (r .len) (held b′ r′) (g .placed) (omega (arith, length-held b′ r′, k .fits)) in
+      let behind =
+      lay-behind-good b (r .head) (r .len) (held b′ r′) (g .placed) (omega (arith, length-held b′ r′, k .fits)) in
       rw (none-asked, laid, at-p, all, behind, made, made-other, at-first)
 
 -- ---- `split_off`

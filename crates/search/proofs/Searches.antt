@@ -59,8 +59,8 @@ unfolding handedRun countedFrom
 counted-in f front back =
     by-test₂ (begins f back) (λ (n : ℕ) (l : List ℕ). n + length l ≤ length front + length back) (λ t. omega arith) (λ t. omega arith)
 
-pub counted-on : (f : ℕ → Bool) (front back run : List ℕ) (off low : ℕ) → run ≡ handedRun f front back → off ≡ countedFrom f front back
-    → low ≤ length run → off + low ≤ length front + length back
+pub counted-on : (f : ℕ → Bool) (front back run : List ℕ) (off low : ℕ) → run ≡ handedRun f front back
+    → off ≡ countedFrom f front back → low ≤ length run → off + low ≤ length front + length back
 counted-on f front back run off low at-run at-off le = omega (arith, counted-in f front back, ap length at-run)
 
 pub spot-handed : (x : ℕ) (front back run : List ℕ) (off : ℕ) → run ≡ handedRun (meets (below x)) front back → off ≡ countedFrom (meets (below x)) front back → begins (meets (equal x)) back ≡ false

@@ -39,9 +39,13 @@ order-runs-requires c κs = search needs
 returns-2 : tie.Need-returns-2
 returns-2 c =
     let a = c .before .before .before .before .before .before .before .before .before .before .args in
-    let passed = passed-zero _ _ (c .before .before .before .before .before .before .before .check-both .ensures) (c .before .before .before .before .before .enum-told .given .1) in
+    let passed =
+    passed-zero _ _ (c .before .before .before .before .before .before .before .check-both .ensures)
+    (c .before .before .before .before .before .enum-told .given .1) in
     c .order-runs .ensures
-    ∙ both-seen (now (a .slots)) (recOf (a .q)) (now (a .other-slots)) (recOf (a .other)) order passed _ _ _ _ (c .before .before .before .before .front-run .ensures .0) (c .before .before .before .back-run .ensures .0) (c .before .before .front-run2 .ensures .0) (c .before .back-run2 .ensures .0)
+    ∙ both-seen (now (a .slots)) (recOf (a .q)) (now (a .other-slots)) (recOf (a .other)) order passed _ _ _ _
+    (c .before .before .before .before .front-run .ensures .0) (c .before .before .before .back-run .ensures .0)
+    (c .before .before .front-run2 .ensures .0) (c .before .back-run2 .ensures .0)
 
 pub cmp-spec : {M : Type 1} → statement M
 cmp-spec =

@@ -34,9 +34,12 @@ stands-in-requires c κs = search needs
 returns-2 : tie.Need-returns-2
 returns-2 c =
     let a = c .before .before .before .before .before .before .before .args in
-    let first = passed-zero _ _ (c .before .before .before .before .before .check .ensures) (c .before .before .before .enum-told .given .1) in
+    let first =
+    passed-zero _ _ (c .before .before .before .before .before .check .ensures)
+    (c .before .before .before .enum-told .given .1) in
     ap sees (c .stands-in .ensures)
-    ∙ seen-in-runs (has (a .x)) (now (a .slots)) (recOf (a .q)) first _ _ (c .before .before .front-run .ensures .0) (c .before .back-run .ensures .0)
+    ∙ seen-in-runs (has (a .x)) (now (a .slots)) (recOf (a .q)) first _ _ (c .before .before .front-run .ensures .0)
+    (c .before .back-run .ensures .0)
 
 pub contains-spec : {M : Type 1} → statement M
 contains-spec =

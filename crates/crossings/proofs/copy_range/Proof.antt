@@ -26,7 +26,9 @@ as-index-requires c κs = search needs
 sub-if2 : tie.Need-sub-if2
 sub-if2 c =
     let st = c .before .before .before .before .before .before in
-    let low = first-in-slots (now (st .args .from)) (recOf (st .args .q)) (st .args .start) (st .args .n) (st .pre .0 .0) (st .pre .0 .1) (c .before .before .before .if1 .left) in
+    let low =
+    first-in-slots (now (st .args .from)) (recOf (st .args .q)) (st .args .start) (st .args .n) (st .pre .0 .0)
+    (st .pre .0 .1) (c .before .before .before .if1 .left) in
     omega arith
 
 add-end : tie.Need-add-end
@@ -50,7 +52,9 @@ copy-slice-requires c κs = search needs
 copy-runs-apart-requires : tie.Need-copy-runs-apart-requires
 copy-runs-apart-requires c κs =
     let st = c .before .before .before .before .before .before .before .before in
-    let low = first-in-slots (now (st .args .from)) (recOf (st .args .q)) (st .args .start) (st .args .n) (st .pre .0 .0) (st .pre .0 .1) (c .before .before .before .before .before .if1 .left) in
+    let low =
+    first-in-slots (now (st .args .from)) (recOf (st .args .q)) (st .args .start) (st .args .n) (st .pre .0 .0)
+    (st .pre .0 .1) (c .before .before .before .before .before .if1 .left) in
     let g = fine (now (st .args .from)) (recOf (st .args .q)) (st .pre .0 .0) in
     let k = g .good in
     ((omega arith, omega arith, omega arith), (omega arith, st .pre .1 .1, st .pre .1 .2))
@@ -61,9 +65,13 @@ same-length c = search needs
 returns-2 : tie.Need-returns-2
 returns-2 c =
     let st = c .before .before .before .before .before .before .before .before .before .before .before .before in
+    let there = c .before .before .before .before .before .before .as-index .ensures in
     c .before .before .copy-slice .ensures
     ∙ ap (lay (now (st .args .slots)) (st .args .dst .0))
-    (range-straight (now (st .args .from)) (recOf (st .args .q)) (st .args .start) (st .args .n) (st .pre .0 .0) (st .pre .0 .1) (c .before .before .before .before .before .before .before .before .before .if1 .left) _ _ (c .before .before .before .before .before .before .as-index .ensures ∙ c .before .before .before .before .before .before .before .wrap-add .ensures) (c .before .before .before .before .before .if2 .taken) refl)
+    (range-straight (now (st .args .from)) (recOf (st .args .q)) (st .args .start) (st .args .n) (st .pre .0 .0)
+    (st .pre .0 .1) (c .before .before .before .before .before .before .before .before .before .if1 .left) _ _
+    (there ∙ c .before .before .before .before .before .before .before .wrap-add .ensures)
+    (c .before .before .before .before .before .if2 .taken) refl)
 
 same-length-2 : tie.Need-same-length-2
 same-length-2 c = search needs
@@ -73,7 +81,9 @@ returns-3 c =
     let st = c .before .before .before .before .before .before .before .before .before .before .before in
     c .before .before .copy-runs-apart .ensures
     ∙ ap (lay (now (st .args .slots)) (st .args .dst .0))
-    (range-there (now (st .args .from)) (recOf (st .args .q)) (st .args .start) (st .args .n) (st .pre .0 .0) (st .pre .0 .1) (c .before .before .before .before .before .before .before .before .if1 .left) _ (c .before .before .before .before .before .before .wrap-add .ensures))
+    (range-there (now (st .args .from)) (recOf (st .args .q)) (st .args .start) (st .args .n) (st .pre .0 .0)
+    (st .pre .0 .1) (c .before .before .before .before .before .before .before .before .if1 .left) _
+    (c .before .before .before .before .before .before .wrap-add .ensures))
 
 pub copy-range-spec : {M : Type 1} → statement M
 copy-range-spec =

@@ -29,8 +29,11 @@ search-runs-requires c κs = search needs
 
 returns-2 : tie.Need-returns-2
 returns-2 c =
-    let first = passed-zero _ _ (c .before .before .before .before .before .check .ensures) (c .before .before .before .enum-told .given .1) in
-    c .search-runs .ensures ∙ spot-seen _ _ first _ _ (c .before .before .front-run .ensures .0) (c .before .back-run .ensures .0) _
+    let first =
+    passed-zero _ _ (c .before .before .before .before .before .check .ensures)
+    (c .before .before .before .enum-told .given .1) in
+    c .search-runs .ensures ∙ spot-seen _ _ first _ _ (c .before .before .front-run .ensures .0)
+    (c .before .back-run .ensures .0) _
 
 pub binary-search-spec : {M : Type 1} → statement M
 binary-search-spec =

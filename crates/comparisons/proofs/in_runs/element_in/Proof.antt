@@ -12,7 +12,8 @@ shared-slice-read-result : tie.Need-shared-slice-read-result
 shared-slice-read-result c = search needs
 
 returns : tie.Need-returns
-returns c = in-front (now (c .before .before .args .front)) (now (c .before .before .args .back)) _ (c .before .if1 .taken)
+returns c =
+    in-front (now (c .before .before .args .front)) (now (c .before .before .args .back)) _ (c .before .if1 .taken)
 
 mul-result-2 : tie.Need-mul-result-2
 mul-result-2 c = search needs
@@ -21,7 +22,8 @@ shared-slice-read-result-2 : tie.Need-shared-slice-read-result-2
 shared-slice-read-result-2 c = search needs
 
 returns-2 : tie.Need-returns-2
-returns-2 c = in-back (now (c .before .before .args .front)) (now (c .before .before .args .back)) _ (c .before .if1 .left)
+returns-2 c =
+    in-back (now (c .before .before .args .front)) (now (c .before .before .args .back)) _ (c .before .if1 .left)
 
 pub element-in-spec : {M : Type 1} → statement M
 element-in-spec =

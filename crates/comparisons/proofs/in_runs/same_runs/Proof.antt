@@ -22,7 +22,8 @@ common-length-requires c κs = search needs
 returns-2 : tie.Need-returns-2
 returns-2 c =
     let a = c .before .before .before .before .before .before .args in
-    same-told (now (a .front)) (now (a .back)) (now (a .other-front)) (now (a .other-back)) _ (c .common-length .ensures) (c .before .if1 .left)
+    same-told (now (a .front)) (now (a .back)) (now (a .other-front)) (now (a .other-back)) _
+    (c .common-length .ensures) (c .before .if1 .left)
 
 pub same-runs-spec : {M : Type 1} → statement M
 same-runs-spec =

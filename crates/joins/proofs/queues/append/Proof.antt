@@ -14,10 +14,18 @@ use Rattle.joins.proofs.queues.append.Statement.{statement}
 use Rattle.joins.proofs.queues.append.Tie as tie
 
 -- past the tests nothing is refused
-past : (c : tie.After-enum-told) → onAppending (length (now (c .before .before .before .before .before .args .slots))) (recOf (c .before .before .before .before .before .args .q)) (length (now (c .before .before .before .before .before .args .other-slots))) (recOf (c .before .before .before .before .before .args .other)) ≡ 0
+past : (c : tie.After-enum-told)
+    → onAppending (length (now (c .before .before .before .before .before .args .slots)))
+    (recOf (c .before .before .before .before .before .args .q))
+    (length (now (c .before .before .before .before .before .args .other-slots)))
+    (recOf (c .before .before .before .before .before .args .other)) ≡ 0
 past c = passed-zero _ _ (c .before .before .check-append .ensures) (c .enum-told .given .1)
 
-ok : (c : tie.After-enum-told) → Appends (now (c .before .before .before .before .before .args .slots)) (recOf (c .before .before .before .before .before .args .q)) (now (c .before .before .before .before .before .args .other-slots)) (recOf (c .before .before .before .before .before .args .other))
+ok : (c : tie.After-enum-told)
+    → Appends (now (c .before .before .before .before .before .args .slots))
+    (recOf (c .before .before .before .before .before .args .q))
+    (now (c .before .before .before .before .before .args .other-slots))
+    (recOf (c .before .before .before .before .before .args .other))
 ok c = appends _ _ _ _ (past c)
 
 check-append-requires : tie.Need-check-append-requires
@@ -38,8 +46,10 @@ wrap-add-requires c κs = let k = ok (c .before) in omega arith
 copy-range-requires : tie.Need-copy-range-requires
 copy-range-requires c κs =
     let k = ok (c .before .before .before) in
-    let g = k .ok .good in
-    ((k .theirs, omega arith), (omega (arith, place-good _ _ (g .placed) _ (g .fits), c .before .wrap-add .ensures), omega arith, k .ok .few))
+    let g = k .ok .good in (
+      (k .theirs, omega arith),
+      (omega (arith, place-good _ _ (g .placed) _ (g .fits), c .before .wrap-add .ensures), omega arith, k .ok .few),
+    )
 
 add-stepped : tie.Need-add-stepped
 add-stepped c = let k = ok (c .before .before .before .before .before .before) in omega arith
@@ -57,7 +67,11 @@ same-length : tie.Need-same-length
 same-length c = search needs
 
 returns-2 : tie.Need-returns-2
-returns-2 c = append-done _ _ _ _ (past (c .before .before .before .before .before .before .before .before .before)) _ _ _ _ _ (c .before .before .before .before .before .before .before .wrap-add .ensures) (c .before .before .before .before .before .copy-range .ensures) (c .before .zero .ensures) (c .before .before .stepped .ensures) (c .stepped2 .ensures)
+returns-2 c =
+    append-done _ _ _ _ (past (c .before .before .before .before .before .before .before .before .before)) _ _ _ _ _
+    (c .before .before .before .before .before .before .before .wrap-add .ensures)
+    (c .before .before .before .before .before .copy-range .ensures) (c .before .zero .ensures)
+    (c .before .before .stepped .ensures) (c .stepped2 .ensures)
 
 pub append-spec : {M : Type 1} → statement M
 append-spec =

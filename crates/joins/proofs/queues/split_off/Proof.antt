@@ -13,10 +13,18 @@ use Rattle.joins.proofs.queues.split_off.Statement.{statement}
 use Rattle.joins.proofs.queues.split_off.Tie as tie
 
 -- past the tests nothing is refused
-past : (c : tie.After-enum-told) → onSplitting (length (now (c .before .before .before .before .before .args .slots))) (recOf (c .before .before .before .before .before .args .q)) (length (now (c .before .before .before .before .before .args .target))) (c .before .before .before .before .before .args .at) ≡ 0
+past : (c : tie.After-enum-told)
+    → onSplitting (length (now (c .before .before .before .before .before .args .slots)))
+    (recOf (c .before .before .before .before .before .args .q))
+    (length (now (c .before .before .before .before .before .args .target)))
+    (c .before .before .before .before .before .args .at) ≡ 0
 past c = passed-zero _ _ (c .before .before .check-split .ensures) (c .enum-told .given .1)
 
-ok : (c : tie.After-enum-told) → Splits (now (c .before .before .before .before .before .args .slots)) (recOf (c .before .before .before .before .before .args .q)) (now (c .before .before .before .before .before .args .target)) (c .before .before .before .before .before .args .at)
+ok : (c : tie.After-enum-told)
+    → Splits (now (c .before .before .before .before .before .args .slots))
+    (recOf (c .before .before .before .before .before .args .q))
+    (now (c .before .before .before .before .before .args .target))
+    (c .before .before .before .before .before .args .at)
 ok c = splits _ _ _ _ (past c)
 
 check-split-requires : tie.Need-check-split-requires
@@ -53,7 +61,10 @@ same-length : tie.Need-same-length
 same-length c = search needs
 
 returns-2 : tie.Need-returns-2
-returns-2 c = split-done _ _ _ _ (past (c .before .before .before .before .before .before .before .before)) _ _ _ _ (c .before .before .before .before .before .zero .ensures) (c .before .before .before .before .copy-range .ensures) (c .before .stepped .ensures) (c .new-record .ensures)
+returns-2 c =
+    split-done _ _ _ _ (past (c .before .before .before .before .before .before .before .before)) _ _ _ _
+    (c .before .before .before .before .before .zero .ensures) (c .before .before .before .before .copy-range .ensures)
+    (c .before .stepped .ensures) (c .new-record .ensures)
 
 pub split-off-spec : {M : Type 1} → statement M
 split-off-spec =

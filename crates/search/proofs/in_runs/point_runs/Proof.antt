@@ -15,10 +15,14 @@ counted-from-requires : tie.Need-counted-from-requires
 counted-from-requires c κs = search needs
 
 add-result : tie.Need-add-result
-add-result c = let k = counted-on _ _ _ _ _ _ (c .before .before .handed-run .ensures) (c .counted-from .ensures) (c .before .place-in .ensures .0) in omega arith
+add-result c =
+    let k = counted-on _ _ _ _ _ _ (c .before .before .handed-run .ensures) (c .counted-from .ensures)
+    (c .before .place-in .ensures .0) in omega arith
 
 returns : tie.Need-returns
-returns c = point-handed _ _ _ _ _ _ (c .before .before .handed-run .ensures) (c .counted-from .ensures) (c .before .place-in .ensures .1)
+returns c =
+    point-handed _ _ _ _ _ _ (c .before .before .handed-run .ensures) (c .counted-from .ensures)
+    (c .before .place-in .ensures .1)
 
 pub point-runs-spec : {M : Type 1} → statement M
 point-runs-spec =

@@ -11,10 +11,16 @@ use Rattle.search.proofs.in_runs.search_runs.Statement.{statement}
 use Rattle.search.proofs.in_runs.search_runs.Tie as tie
 
 -- the halving goes on in the run that is handed
-goes-on : (c : tie.After-counted-from) → spotIn (c .before .before .before .before .before .before .before .args .x) (now (c .before .before .handed-run .result)) (c .counted-from .result)
-    ≡ spotOf (c .before .before .before .before .before .before .before .args .x) (now (c .before .before .before .before .before .before .before .args .front)) (now (c .before .before .before .before .before .before .before .args .back))
+goes-on : (c : tie.After-counted-from)
+    → spotIn (c .before .before .before .before .before .before .before .args .x)
+    (now (c .before .before .handed-run .result)) (c .counted-from .result)
+    ≡ spotOf (c .before .before .before .before .before .before .before .args .x)
+    (now (c .before .before .before .before .before .before .before .args .front))
+    (now (c .before .before .before .before .before .before .before .args .back))
 unfolding testOf
-goes-on c = spot-handed _ _ _ _ _ (c .before .before .handed-run .ensures) (c .counted-from .ensures) (sym (c .before .before .before .before .begins-with .ensures) ∙ c .before .before .before .if1 .left)
+goes-on c =
+    spot-handed _ _ _ _ _ (c .before .before .handed-run .ensures) (c .counted-from .ensures)
+    (sym (c .before .before .before .before .begins-with .ensures) ∙ c .before .before .before .if1 .left)
 
 begins-with-requires : tie.Need-begins-with-requires
 begins-with-requires c κs = search needs
@@ -33,7 +39,9 @@ counted-from-requires : tie.Need-counted-from-requires
 counted-from-requires c κs = search needs
 
 add-at : tie.Need-add-at
-add-at c = let k = counted-on _ _ _ _ _ _ (c .before .before .handed-run .ensures) (c .counted-from .ensures) (c .before .place-in .ensures .0) in omega arith
+add-at c =
+    let k = counted-on _ _ _ _ _ _ (c .before .before .handed-run .ensures) (c .counted-from .ensures)
+    (c .before .place-in .ensures .0) in omega arith
 
 mul-if3 : tie.Need-mul-if3
 mul-if3 c = search needs
@@ -43,11 +51,15 @@ shared-slice-read-if3 c = search needs
 
 returns-2 : tie.Need-returns-2
 unfolding testOf
-returns-2 c = ap sees (spot-found _ _ _ _ (c .before .before .before .before .place-in .ensures .1) (c .before .before .if2 .taken) (c .if3 .taken) ∙ goes-on (c .before .before .before))
+returns-2 c =
+    ap sees (spot-found _ _ _ _ (c .before .before .before .before .place-in .ensures .1)
+    (c .before .before .if2 .taken) (c .if3 .taken) ∙ goes-on (c .before .before .before))
 
 returns-3 : tie.Need-returns-3
 unfolding testOf
-returns-3 c = ap sees (spot-unlike _ _ _ _ (c .before .before .before .before .place-in .ensures .1) (c .before .before .if2 .taken) (c .if3 .left) ∙ goes-on (c .before .before .before))
+returns-3 c =
+    ap sees (spot-unlike _ _ _ _ (c .before .before .before .before .place-in .ensures .1)
+    (c .before .before .if2 .taken) (c .if3 .left) ∙ goes-on (c .before .before .before))
 
 returns-4 : tie.Need-returns-4
 unfolding testOf
