@@ -1,4 +1,4 @@
--- What the answers in one form cite: a refused answer has its refusal's number, and an answer of which it is known which it is says what that one does. Assumes nothing.
+-- A refused answer has its refusal's number; an answer of which it is known which it is says what that one does. Assumes nothing.
 use mathlib.Core.Path.{_≡_, sym, ap}
 use Prim.Native.Nat.{ℕ}
 use Rattle.answers.specs.Answers.{refusing, madeAnswer, bothHeld, bothSeen}
@@ -12,10 +12,12 @@ use Rattle.queue.specs.declared.answers.Split.{Split}
 
 -- ---- refused
 
-pub refused-number : (n : ℕ) (x : Refusal) (m : ℕ) (h : Held) → n ≡ numberOf x → refusing n m h ≡ refusing (numberOf x) m h
+pub refused-number : (n : ℕ) (x : Refusal) (m : ℕ) (h : Held) → n ≡ numberOf x
+    → refusing n m h ≡ refusing (numberOf x) m h
 refused-number n x m h e = ap (λ (k : ℕ). refusing k m h) e
 
-pub both-number : (n : ℕ) (x : Refusal) (m : ℕ) (h h′ : Held) → n ≡ numberOf x → bothHeld n m h h′ ≡ bothHeld (numberOf x) m h h′
+pub both-number : (n : ℕ) (x : Refusal) (m : ℕ) (h h′ : Held) → n ≡ numberOf x
+    → bothHeld n m h h′ ≡ bothHeld (numberOf x) m h h′
 both-number n x m h h′ e = ap (λ (k : ℕ). bothHeld k m h h′) e
 
 -- ---- known

@@ -16,7 +16,13 @@ ofAnswer p = record { refused = p .refused; moved = p .moved; held = heldOf (p .
 
 -- of a call on either of two: the same, with both records
 abbrev pub ofStepAnswer : StepAnswer → Seen
-ofStepAnswer p = record { refused = p .refused; moved = p .moved; handed = ofGiven (p .handed); a = heldOf (p .a); b = heldOf (p .b) }
+ofStepAnswer p = record {
+  refused = p .refused;
+  moved = p .moved;
+  handed = ofGiven (p .handed);
+  a = heldOf (p .a);
+  b = heldOf (p .b);
+}
 
 -- refusal number and moved count, where h is held and nothing is handed over
 abbrev pub refusing : ℕ → ℕ → Held → Answer

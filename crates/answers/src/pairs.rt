@@ -10,7 +10,7 @@ ghost use Rattle.queue.specs.Drains.{heldOf};
 ghost use Rattle.queue.specs.Pairs.{ofJoined, ofSplit};
 ghost use Rattle.answers.specs.Answers.{bothSeen, ofStepAnswer};
 
-// What a call on either of two queues answers: the refusal number, the moved count, what was handed over, and the records of both.
+// What a call on either of two queues answers: the refusal number, the moved count, what was handed over, and both records.
 pub struct StepAnswer {
     pub refused: usize,
     pub moved: usize,

@@ -59,8 +59,8 @@ module _ (b : List ℕ) (d : Drain) (first : onDrain (length b) d ≡ 0) where
     draws-none none-done z = rw (first, ap step z, none-done)
 
     -- v, the element at position i of the list in the slots, is handed over; r is the record that it was read by
-    draws-some : (i v : ℕ) (d′ : Drain) → step (suc (d .remaining - 1)) ≡ handsOver b d′ (getD (held b (asOpened d)) i 0) → d .remaining ≢ 0
-        → (r : Rec) → r ≡ asOpened d → v ≡ getD (held b r) i 0
+    draws-some : (i v : ℕ) (d′ : Drain) → step (suc (d .remaining - 1)) ≡ handsOver b d′ (getD (held b (asOpened d)) i 0)
+        → d .remaining ≢ 0 → (r : Rec) → r ≡ asOpened d → v ≡ getD (held b r) i 0
         → (record { refused = 0; moved = 0; held = drawn d′; handed = some v }, b) ≡ told (unless (onDrain (length b) d) (step (d .remaining)) (unchanged b (drawn d) (onDrain (length b) d)))
     unfolding handsOver unless
     draws-some i v d′ done some-left r whole is =
@@ -76,7 +76,8 @@ module _ (b : List ℕ) (d : Drain) (first : onDrain (length b) d ≡ 0) where
   unfolding doNextBack nextBackOf
   next-back-none = draws-none (nextBackOf b d) refl
 
-  pub next-some : (v : ℕ) (d′ : Drain) → d′ ≡ fromFront d → d .remaining ≢ 0 → (r : Rec) → r ≡ asOpened d → v ≡ getD (held b r) (d .idx) 0
+  pub next-some : (v : ℕ) (d′ : Drain) → d′ ≡ fromFront d → d .remaining ≢ 0
+      → (r : Rec) → r ≡ asOpened d → v ≡ getD (held b r) (d .idx) 0
       → (record { refused = 0; moved = 0; held = drawn d′; handed = some v }, b) ≡ told (doNext b d)
   unfolding doNext nextOf
   next-some v d′ made = rw made (draws-some (nextOf b d) (d .idx) v (fromFront d) refl)

@@ -21,4 +21,6 @@ module _ (b : List ℕ) (r : Rec) (i : ℕ) (first : onQueue (length b) r 0 ≡ 
 
     pub element-is : getD b p 0 ≡ getD (held b r) i 0
     unfolding held
-    element-is = let g = fine b r first .good in rw at-p (sym (getD-listOf b (r .head) (omega arith) (r .len) i (g .fits) lt))
+    element-is =
+        let g = fine b r first .good in
+        rw at-p (sym (getD-listOf b (r .head) (omega arith) (r .len) i (g .fits) lt))

@@ -1,4 +1,4 @@
--- An answer that carries an element is fixed by document 01's number and values for it: two answers of which the same is said are one. Assumes nothing.
+-- An answer that carries an element is fixed by what is said of it: two of which the same is said are one. Assumes nothing.
 use mathlib.Core.Option.{Option, none, some}
 use mathlib.Core.Path.{_≡_, refl}
 use Prim.Native.Nat.{ℕ}
@@ -14,7 +14,7 @@ use Rattle.queue.specs.declared.refusals.Refusal.the-variants.{Slots, Record, P
 use Rattle.elements.specs.declared.answers.Handed.{Handed}
 use Rattle.elements.specs.declared.answers.Handed.the-variants.{Number, Nothing, Refused as NotHanded}
 use Rattle.elements.specs.declared.answers.Found.{Found}
-use Rattle.elements.specs.declared.answers.Found.the-variants.{Number as Seen, Nothing as Unseen, Refused as NotSeen}
+use Rattle.elements.specs.declared.answers.Found.the-variants.{Number as Sees, Nothing as SeesNone, Refused as NotSeen}
 
 -- ---- the way back, for each kind of answer
 
@@ -23,12 +23,14 @@ numberOr none q m = Nothing q m
 numberOr (some v) q m = Number v q m
 
 handedOf : Answer → Handed
-handedOf a = whether (eqb (a .refused) 0) (numberOr (a .handed) (dequeOf (a .held)) (a .moved)) (NotHanded (named (a .refused)) (dequeOf (a .held)) (a .moved))
+handedOf a =
+    let q = dequeOf (a .held) in
+    whether (eqb (a .refused) 0) (numberOr (a .handed) q (a .moved)) (NotHanded (named (a .refused)) q (a .moved))
 
 foundOf : Look (Option ℕ) → Found
 foundOf (refuses n) = NotSeen (named n)
-foundOf (sees none) = Unseen
-foundOf (sees (some v)) = Seen v
+foundOf (sees none) = SeesNone
+foundOf (sees (some v)) = Sees v
 
 -- ---- it leads back
 
@@ -44,8 +46,8 @@ handed-back (NotHanded Image q m) = refl
 
 found-back : (a : Found) → foundOf (ofFound a) ≡ a
 unfolding foundOf named numberOf whether
-found-back (Seen v) = refl
-found-back Unseen = refl
+found-back (Sees v) = refl
+found-back SeesNone = refl
 found-back (NotSeen Slots) = refl
 found-back (NotSeen Record) = refl
 found-back (NotSeen Position) = refl

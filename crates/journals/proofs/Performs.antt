@@ -33,7 +33,8 @@ module _ (o : Outcome) (a k : Answer) (b : List ℕ) (same : a ≡ k) (opens : (
   stays-shut r h = e ∙ ap (λ (x : Outcome). told x) (sym (by-shut (o .answer .held) r o (ap (λ (x : Answer × List ℕ). x .0 .held) (sym e) ∙ h)))
 
   -- it was opened, and is closed, which told b′ and its own answer y, which is p in the one form
-  pub opens-closes : (d : Drain) → a .held ≡ drawn d → (p y : Answer) (b′ : List ℕ) → p ≡ y → (y, b′) ≡ told (doClose b d) → (p, b′) ≡ told (closing o)
+  pub opens-closes : (d : Drain) → a .held ≡ drawn d → (p y : Answer) (b′ : List ℕ) → p ≡ y
+      → (y, b′) ≡ told (doClose b d) → (p, b′) ≡ told (closing o)
   unfolding closing
   opens-closes d h p y b′ is closes =
       (λ i. (is i, b′)) ∙ closes

@@ -16,7 +16,8 @@ ghost use Rattle.journals.specs.Records.{entryFor};
 
 // Opens a drain and closes it at once.
 fn drain_closed(slots: &mut [u32], q: Deque, start: usize, end: usize) -> Answer
-    ensures { λ r. ⌜ (ofAnswer r, now (slots .exit)) ≡ told (closing (doOpen (now (slots .entry)) (recOf q) start end)) ⌝ }
+    ensures { λ r. ⌜ (ofAnswer r, now (slots .exit))
+        ≡ told (closing (doOpen (now (slots .entry)) (recOf q) start end)) ⌝ }
 {
     let opened = of_opened(drains::drain(slots, q, start, end));
     let state = opened.state;
@@ -28,7 +29,8 @@ fn drain_closed(slots: &mut [u32], q: Deque, start: usize, end: usize) -> Answer
 
 // Performs an operation.
 pub fn perform(slots: &mut [u32], q: Deque, operation: Operation) -> Answer
-    ensures { λ r. ⌜ (ofAnswer r, now (slots .exit)) ≡ told (doEntry (now (slots .entry)) (recOf q) (entryFor operation)) ⌝ }
+    ensures { λ r. ⌜ (ofAnswer r, now (slots .exit))
+        ≡ told (doEntry (now (slots .entry)) (recOf q) (entryFor operation)) ⌝ }
 {
     match operation {
         Operation::PushBack(v) => of_change(ends::push_back(slots, q, v)),

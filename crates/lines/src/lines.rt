@@ -101,7 +101,8 @@ pub fn answer_line(
     done: Answer,
 ) -> usize
     requires { ⌜ at + 105 ≤ length (now out) ⌝ }
-    ensures { λ r. ⌜ Puts (now (out .entry)) (now (out .exit)) at r (answerLine (recOf before) (entryFor operation) (ofAnswer done)) × (r ≤ at + 105) ⌝ }
+    ensures { λ r. ⌜ Puts (now (out .entry)) (now (out .exit)) at r
+        (answerLine (recOf before) (entryFor operation) (ofAnswer done)) × (r ≤ at + 105) ⌝ }
 {
     let state = done.state;
     let queue = answers::record_or(before, state);

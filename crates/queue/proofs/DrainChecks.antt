@@ -39,10 +39,16 @@ module _ (c : ℕ) (d : Drain) where
   bad f = decided false (λ t. absurd t) (λ t. f)
 
   -- all else is good: what is left is the test of the remaining ones, made by differences
-  pub last-test : goodHead c (d .head) ≡ true → d .start + d .drained + d .tail ≤ c → d .start ≤ d .idx → d .idx ≤ d .start + d .drained
-      → leb (d .remaining) (d .drained - (d .idx - d .start)) ≡ goodDrain c d
+  pub last-test : goodHead c (d .head) ≡ true → d .start + d .drained + d .tail ≤ c → d .start ≤ d .idx
+      → d .idx ≤ d .start + d .drained → leb (d .remaining) (d .drained - (d .idx - d .start)) ≡ goodDrain c d
   last-test head fits from upto =
-      decided _ (λ t. record { whole = record { placed = head-ok c (d .head) (rw head tt); fits = fits }; from = from; upto = omega (arith, leb→le (d .remaining) _ t) }) (λ t g. omega (arith, nleb→lt (d .remaining) _ t))
+      decided _
+      (λ t. record {
+        whole = record { placed = head-ok c (d .head) (rw head tt); fits = fits };
+        from = from;
+        upto = omega (arith, leb→le (d .remaining) _ t);
+      })
+      (λ t g. omega (arith, nleb→lt (d .remaining) _ t))
 
   -- ---- one law for each return of `check_drain`
 
@@ -61,7 +67,9 @@ module _ (c : ℕ) (d : Drain) where
   -- past them, the record as the drain was opened passes the tests of a queue, and what remains are positions of it
   module _ (z : onDrain c d ≡ 0) (r : Rec) (whole : r ≡ asOpened d) where
     pub drain-queue : onQueue c r 0 ≡ 0
-    drain-queue = let k = drain-ok c d z in rw whole (all-good c (asOpened d) 0 (k .0) (record-true c (asOpened d) (k .1 .whole)))
+    drain-queue =
+        let k = drain-ok c d z in
+        rw whole (all-good c (asOpened d) 0 (k .0) (record-true c (asOpened d) (k .1 .whole)))
 
     pub remains-in : (i : ℕ) → i < d .idx + d .remaining → i < r .len
     remains-in i lt = let g = drain-ok c d z .1 in rw whole (omega arith)

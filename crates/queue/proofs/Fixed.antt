@@ -60,7 +60,8 @@ made-back (NotMade Image m) = refl
 -- ---- so one answer is left
 
 -- what has a way back is fixed by what is said of it
-pub fixed : {A B : Type 0} (say : A → B) (back : B → A) → ((a : A) → back (say a) ≡ a) → (a b : A) → say a ≡ say b → a ≡ b
+pub fixed : {A B : Type 0} (say : A → B) (back : B → A) → ((a : A) → back (say a) ≡ a)
+    → (a b : A) → say a ≡ say b → a ≡ b
 fixed say back leads a b e = sym (leads a) ∙ ap back e ∙ leads b
 
 pub one-change : (a b : Change) → ofChange a ≡ ofChange b → a ≡ b

@@ -23,8 +23,10 @@ module _ (c : ℕ) (w : Walk) where
 
     pub high-stops : w .low ≤ w .high → w .rec .len < w .high → numberOf Record ≡ onWalk c w
     unfolding onWalk ask numberOf
-    high-stops le lt = sym (queue-go c (w .rec) _ first ∙ rw (le-leb (w .low) (w .high) le, lt-leb (w .high) (w .rec .len) lt))
+    high-stops le lt =
+        sym (queue-go c (w .rec) _ first ∙ rw (le-leb (w .low) (w .high) le, lt-leb (w .high) (w .rec .len) lt))
 
     pub none-stops : w .low ≤ w .high → w .high ≤ w .rec .len → 0 ≡ onWalk c w
     unfolding onWalk ask
-    none-stops le le′ = sym (queue-go c (w .rec) _ first ∙ rw (le-leb (w .low) (w .high) le, le-leb (w .high) (w .rec .len) le′))
+    none-stops le le′ =
+        sym (queue-go c (w .rec) _ first ∙ rw (le-leb (w .low) (w .high) le, le-leb (w .high) (w .rec .len) le′))

@@ -14,7 +14,14 @@ use Rattle.queue.specs.declared.answers.Closed.the-variants.{Done, Refus
 
 -- the drain record that the rules speak of
 abbrev pub drainOf : Draining → Drain
-drainOf d = record { head = d .head .0; start = d .start; drained = d .«drain_len»; idx = d .idx; tail = d .«tail_len»; remaining = d .remaining }
+drainOf d = record {
+  head = d .head .0;
+  start = d .start;
+  drained = d .«drain_len»;
+  idx = d .idx;
+  tail = d .«tail_len»;
+  remaining = d .remaining;
+}
 
 -- the record of a queue, or of its open drain
 abbrev pub heldOf : State → Held

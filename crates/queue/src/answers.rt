@@ -4,6 +4,9 @@ use super::records::Drain;
 use super::records::Span;
 use super::records::Walk;
 use super::refusals::Refusal;
+ghost use mathlib.Core.Option.{none};
+ghost use mathlib.Core.Path.{_≡_};
+ghost use Rattle.queue.specs.Answers.{numberOf, answer, ofChange};
 
 // The answer of a call that hands nothing over. A refusal hands back the same record.
 pub enum Change {
@@ -16,6 +19,17 @@ pub enum Change {
         queue: Deque,
         moved: usize,
     },
+}
+
+// The answer of a call that hands nothing over and is refused: the same record, and nothing moved.
+pub fn refused(refusal: Refusal, q: Deque) -> Change
+    ensures { λ r. ⌜ ofChange r ≡ answer (numberOf refusal) 0 q none ⌝ }
+{
+    Change::Refused {
+        refusal,
+        queue: q,
+        moved: 0,
+    }
 }
 
 // The answer of a call that makes a record, and makes none when refused.

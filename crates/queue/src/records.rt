@@ -3,7 +3,7 @@ use places::WrappedIndex;
 ghost use mathlib.Core.Path.{_≡_};
 ghost use Prim.Native.Nat.{_+_, _<_, _≤_};
 ghost use lib.Dec.{eqb};
-ghost use Rattle.rules.specs.Drains.{opened, fromFront, fromBack, spread, asOpened};
+ghost use Rattle.rules.specs.Drains.{opened, oneLess, fromFront, fromBack, spread, asOpened};
 ghost use Rattle.rules.specs.Records.{stepped, newRec};
 ghost use Rattle.rules.specs.Tests.{whether};
 ghost use Rattle.rules.specs.Walks.{wholeWalk};
@@ -18,8 +18,8 @@ pub struct Deque {
     pub len: usize,
 }
 
-// The record of an open drain. In front of the drained range stand `start` elements, behind it `tail_len`; of its `drain_len` elements the
-// `remaining` from position `idx` on are not handed over yet.
+// The record of an open drain. In front of the drained range stand `start` elements, behind it `tail_len`; of its
+// `drain_len` elements the `remaining` from position `idx` on are not handed over yet.
 pub struct Drain {
     pub head: WrappedIndex,
     pub start: usize,
@@ -92,20 +92,28 @@ pub fn opened_drain(q: Deque, start: usize, end: usize) -> Drain
     }
 }
 
-// The drain once its first remaining element is handed over.
-pub fn from_front(d: Drain) -> Drain
-    requires { ⌜ (0 < d .remaining) × (d .idx + 1 < 18446744073709551616) ⌝ }
-    ensures { λ r. ⌜ drainOf r ≡ fromFront (drainOf d) ⌝ }
+// The drain with one less to hand over, from position `idx` on.
+fn one_less(d: Drain, idx: usize) -> Drain
+    requires { ⌜ 0 < d .remaining ⌝ }
+    ensures { λ r. ⌜ drainOf r ≡ oneLess (drainOf d) idx ⌝ }
 {
     let head = d.head;
     Drain {
         head,
         start: d.start,
         drain_len: d.drain_len,
-        idx: d.idx + 1,
+        idx,
         tail_len: d.tail_len,
         remaining: d.remaining - 1,
     }
+}
+
+// The drain once its first remaining element is handed over.
+pub fn from_front(d: Drain) -> Drain
+    requires { ⌜ (0 < d .remaining) × (d .idx + 1 < 18446744073709551616) ⌝ }
+    ensures { λ r. ⌜ drainOf r ≡ fromFront (drainOf d) ⌝ }
+{
+    one_less(d, d.idx + 1)
 }
 
 // The drain once its last remaining element is handed over.
@@ -113,15 +121,7 @@ pub fn from_back(d: Drain) -> Drain
     requires { ⌜ 0 < d .remaining ⌝ }
     ensures { λ r. ⌜ drainOf r ≡ fromBack (drainOf d) ⌝ }
 {
-    let head = d.head;
-    Drain {
-        head,
-        start: d.start,
-        drain_len: d.drain_len,
-        idx: d.idx,
-        tail_len: d.tail_len,
-        remaining: d.remaining - 1,
-    }
+    one_less(d, d.idx)
 }
 
 // The queue's record as the drain was opened.
@@ -139,7 +139,8 @@ pub fn as_opened(d: Drain) -> Deque
 // The queue's record once the drain is closed and the elements that are left begin at `head`.
 pub fn closed_record(d: Drain, head: WrappedIndex) -> Deque
     requires { ⌜ spread (drainOf d) < 18446744073709551616 ⌝ }
-    ensures { λ r. ⌜ recOf r ≡ stepped (asOpened (drainOf d)) (whether (eqb (d .start + d .«tail_len») 0) 0 (head .0)) (d .start + d .«tail_len») ⌝ }
+    ensures { λ r. ⌜ recOf r
+        ≡ stepped (asOpened (drainOf d)) (whether (eqb (d .start + d .«tail_len») 0) 0 (head .0)) (d .start + d .«tail_len») ⌝ }
 {
     let len = d.start + d.tail_len;
     stepped(as_opened(d), head_over(head, len), len)

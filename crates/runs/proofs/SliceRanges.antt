@@ -23,6 +23,7 @@ module _ (b : List ℕ) (r : Rec) (s e : ℕ) (first : onQueue (length b) r 0 �
   unfolding lookRuns onRange
   range-refused x z = asks-refused _ _ x (queue-go (length b) r _ first ∙ z)
 
-  pub range-seen : inRange (r .len) s e 0 ≡ 0 → (t : TwoRuns) → t ≡ runs (length b) (r .head) s e → sees t ≡ lookRuns b r s e
+  pub range-seen : inRange (r .len) s e 0 ≡ 0 → (t : TwoRuns) → t ≡ runs (length b) (r .head) s e
+      → sees t ≡ lookRuns b r s e
   unfolding lookRuns onRange
   range-seen ranged t is = ap sees is ∙ asks-seen _ _ (queue-go (length b) r _ first ∙ ranged)

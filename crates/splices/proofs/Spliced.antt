@@ -32,14 +32,16 @@ module _ (b : List ℕ) (r : Rec) (s e : ℕ) (vs : List ℕ) (first : onChange 
       → (record { refused = numberOf x; moved = 0; held = shut r; handed = none }, b) ≡ told (doRule b r (splice s e vs))
   unfolding splice
   splice-range x z =
-      own-refused b r (splice s e vs) (numberOf x) (some-number x) first (range-stop (r .len) s e _ (numberOf x) (some-number x) z)
+      own-refused b r (splice s e vs) (numberOf x) (some-number x) first
+      (range-stop (r .len) s e _ (numberOf x) (some-number x) z)
 
   module _ (ranged : inRange (r .len) s e 0 ≡ 0) where
     -- more elements than slots
     pub splice-full : length b < s + length vs + (r .len - e)
         → (record { refused = numberOf Room; moved = 0; held = shut r; handed = none }, b) ≡ told (doRule b r (splice s e vs))
     unfolding splice numberOf
-    splice-full lt = own-refused b r (splice s e vs) 4 (λ z. omega arith) first (range-go (r .len) s e _ ranged ∙ no-room _ _ lt)
+    splice-full lt =
+        own-refused b r (splice s e vs) 4 (λ z. omega arith) first (range-go (r .len) s e _ ranged ∙ no-room _ _ lt)
 
     -- the room is made, and the values are laid into it
     pub spliced : (b′ b″ : List ℕ) (h′ h″ m : ℕ) (r′ : Rec) → s + length vs + (r .len - e) ≤ length b

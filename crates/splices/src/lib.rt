@@ -58,28 +58,16 @@ pub fn splice(slots: &mut [u32], q: Deque, start: usize, end: usize, values: &[u
 {
     let cap = slots.len();
     if let Checked::Refused(refusal) = queue::check_change(cap, q) {
-        return Change::Refused {
-            refusal,
-            queue: q,
-            moved: 0,
-        };
+        return queue::refused(refusal, q);
     }
     let len = q.len;
     if let Checked::Refused(refusal) = queue::check_range(len, start, end) {
-        return Change::Refused {
-            refusal,
-            queue: q,
-            moved: 0,
-        };
+        return queue::refused(refusal, q);
     }
     let tail = len - end;
     let new = values.len();
     if new > cap - start - tail {
-        return Change::Refused {
-            refusal: Refusal::Room,
-            queue: q,
-            moved: 0,
-        };
+        return queue::refused(Refusal::Room, q);
     }
     let head = q.head;
     let settled = make_room(slots, head, start, end - start, new, tail);

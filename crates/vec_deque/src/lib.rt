@@ -77,9 +77,9 @@ pub use walks::walk_next;
 pub use walks::walk_next_back;
 
 // Comparing.
-pub use compare::cmp;
-pub use compare::contains;
-pub use compare::eq;
+pub use comparisons::cmp;
+pub use comparisons::contains;
+pub use comparisons::eq;
 pub use queue::Ordering;
 pub use queue::Truth;
 

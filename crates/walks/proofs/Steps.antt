@@ -3,25 +3,21 @@ use mathlib.Core.List.{List}
 use mathlib.Core.Logic.{_≢_}
 use mathlib.Core.Option.{some, none}
 use mathlib.Core.Path.{_≡_, sym, _∙_, ap, refl}
-use Prim.Native.Nat.{ℕ, _<_, _≤_, _-_, _+_}
+use Prim.Native.Nat.{ℕ, _≤_, _-_, _+_}
 use native.Mathlib.Omega.{arith}
-use borrow.Author.Tests.{lt-leb, le-leb, le-ltb, lt-ltb}
+use borrow.Author.Tests.{le-ltb, lt-ltb}
 use lib.Dec.{leb, leb→le, ltb}
 use lib.ListN.{length, getD}
-use Rattle.queue.proofs.Checks.{fine}
 use Rattle.queue.proofs.Numbers.{some-number}
 use Rattle.queue.specs.Answers.{numberOf}
-use Rattle.rules.proofs.Refusals.{queue-stop, queue-go, queue-ok, T-and}
-use Rattle.rules.proofs.Slots.{getD-listOf}
+use Rattle.rules.proofs.Refusals.{queue-ok, T-and}
 use Rattle.rules.proofs.Tests.{unless-stop, passed}
 use Rattle.rules.specs.Looks.{refuses, looked, sees}
-use Rattle.rules.specs.Places.{place}
 use Rattle.rules.specs.Records.{Rec, held}
 use Rattle.rules.specs.Refusals.{onQueue}
-use Rattle.rules.specs.Tests.{unless, ask, whether}
+use Rattle.rules.specs.Tests.{unless, whether}
 use Rattle.rules.specs.Walks.{beginWalk, wholeWalk, Walk, WalkStep, onWalk, nextStep, nextBackStep, sameWalk}
 use Rattle.queue.specs.declared.refusals.Refusal.{Refusal}
-use Rattle.queue.specs.declared.refusals.Refusal.the-variants.{Record}
 
 -- ---- the walk that is begun
 

@@ -31,8 +31,13 @@ check-change-requires c κs = search needs
 enum-known-refusal : tie.Need-enum-known-refusal
 enum-known-refusal c = search needs
 
+refused-requires : tie.Need-refused-requires
+refused-requires c κs = search needs
+
 returns : tie.Need-returns
-returns c = told-first _ _ _ (c .before .before .before .check-change .ensures) _ _ (c .before .refusal .given .1)
+returns c =
+    rw (c .refused .ensures)
+    (told-first _ _ _ (c .before .before .before .before .check-change .ensures) _ _ (c .before .before .refusal .given .1))
 
 enum-told : tie.Need-enum-told
 enum-told c = search needs
@@ -43,9 +48,14 @@ check-range-requires c κs = search needs
 enum-known-refusal-2 : tie.Need-enum-known-refusal-2
 enum-known-refusal-2 c = search needs
 
+refused-requires-2 : tie.Need-refused-requires-2
+refused-requires-2 c κs = search needs
+
 returns-2 : tie.Need-returns-2
 returns-2 c =
-    splice-range _ _ _ _ _ (past (c .before .before .before .before)) _ (failed-number _ _ _ (c .before .before .before .check-range .ensures) (c .before .refusal2 .given .1))
+    rw (c .refused2 .ensures)
+    (splice-range _ _ _ _ _ (past (c .before .before .before .before .before)) _
+    (failed-number _ _ _ (c .before .before .before .before .check-range .ensures) (c .before .before .refusal2 .given .1)))
 
 enum-told-2 : tie.Need-enum-told-2
 enum-told-2 c = search needs
@@ -59,11 +69,14 @@ sub-if1 c = let k = range-ok _ _ _ _ (ranged c) in let g = ok (c .before .before
 sub-if1-2 : tie.Need-sub-if1-2
 sub-if1-2 c = let k = range-ok _ _ _ _ (ranged c) in let g = ok (c .before .before .before) .good in omega arith
 
+refused-requires-3 : tie.Need-refused-requires-3
+refused-requires-3 c κs = search needs
+
 returns-3 : tie.Need-returns-3
 returns-3 c =
-    let k = range-ok _ _ _ _ (ranged (c .before)) in
-    let g = ok (c .before .before .before .before) .good in
-    splice-full _ _ _ _ _ (past (c .before .before .before .before)) (ranged (c .before)) (omega arith)
+    let k = range-ok _ _ _ _ (ranged (c .before .before)) in
+    let g = ok (c .before .before .before .before .before) .good in
+    rw (c .refused3 .ensures) (splice-full _ _ _ _ _ (past (c .before .before .before .before .before)) (ranged (c .before .before)) (omega arith))
 
 sub-make-room : tie.Need-sub-make-room
 sub-make-room c = let k = range-ok _ _ _ _ (ranged (c .before .before .before)) in omega arith
@@ -113,15 +126,18 @@ splice-spec =
     (tie.spec
     check-change-requires
     enum-known-refusal
+    refused-requires
     returns
     enum-told
     check-range-requires
     enum-known-refusal-2
+    refused-requires-2
     returns-2
     enum-told-2
     sub-tail
     sub-if1
     sub-if1-2
+    refused-requires-3
     returns-3
     sub-make-room
     make-room-requires

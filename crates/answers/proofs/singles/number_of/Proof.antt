@@ -1,5 +1,5 @@
 -- `answers::number_of` meets its contract. Assumes nothing.
-use mathlib.Core.Path.{_≡_, refl, sym, _∙_, ap}
+use mathlib.Core.Path.{sym, ap}
 use Rattle.queue.specs.Answers.{numberOf}
 use borrow.Author.Needs.{needs}
 use Rattle.answers.proofs.singles.number_of.Statement.{statement}

@@ -1,5 +1,5 @@
 -- `answers::of_change` meets its contract. Assumes nothing.
-use mathlib.Core.Path.{_≡_, refl, sym, _∙_, ap}
+use mathlib.Core.Path.{sym, _∙_, ap}
 use Rattle.answers.proofs.Flat.{refused-number}
 use Rattle.queue.specs.Answers.{ofChange}
 use borrow.Author.Needs.{needs}

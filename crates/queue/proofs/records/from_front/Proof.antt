@@ -1,19 +1,18 @@
 -- `queue::from_front` meets its contract. Assumes nothing.
-use mathlib.Core.Path.{refl}
 use borrow.Author.Needs.{needs}
 use Rattle.rules.specs.Drains.{fromFront}
 use Rattle.queue.proofs.records.from_front.Statement.{statement}
 use Rattle.queue.proofs.records.from_front.Tie as tie
 
-add-t3 : tie.Need-add-t3
-add-t3 c = search needs
+add-one-less : tie.Need-add-one-less
+add-one-less c = search needs
 
-sub-t4 : tie.Need-sub-t4
-sub-t4 c = search needs
+one-less-requires : tie.Need-one-less-requires
+one-less-requires c κs = search needs
 
 returns : tie.Need-returns
 unfolding fromFront
-returns c = refl
+returns c = c .one-less .ensures
 
 pub from-front-spec : {M : Type 1} → statement M
-from-front-spec = tie.close (tie.spec add-t3 sub-t4 returns)
+from-front-spec = tie.close (tie.spec add-one-less one-less-requires returns)
