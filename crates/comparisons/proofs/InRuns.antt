@@ -1,5 +1,5 @@
--- Lists in two runs, front and back, front′ and back′: an element, and a law for each return of the functions over runs.
--- Assumes nothing.
+-- Lists in two runs, front and back, front′ and back′: an element, and a law for each return of the functions over
+-- runs. Assumes nothing.
 use mathlib.Core.Bool.{false}
 use mathlib.Core.List.{List, _++_}
 use mathlib.Core.Logic.{_≢_}

@@ -1,4 +1,5 @@
-// Lists in two runs, a front run and a back run behind it: whether a number stands in one, and how two of them stand to each other.
+// Lists in two runs, a front run and a back run behind it: whether a number stands in one, and how two of them stand
+// to each other.
 use queue::Ordering;
 ghost use lib.ListN.{length, getD};
 ghost use mathlib.Core.List.{_++_};

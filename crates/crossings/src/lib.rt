@@ -9,7 +9,8 @@ ghost use Rattle.rules.specs.Refusals.{onQueue, mostSlots};
 ghost use Rattle.rules.specs.Slots.{lay, listOf};
 ghost use Rattle.queue.specs.Answers.{recOf};
 
-// Copies the `n` elements that stand from `first` on, past the last slot, into other slots from `dst` on: the front run, and behind it the back run.
+// Copies the `n` elements that stand from `first` on, past the last slot, into other slots from `dst` on: the front
+// run, and behind it the back run.
 fn copy_runs_apart(
     slots: &mut [u32],
     dst: WrappedIndex,
@@ -28,7 +29,8 @@ fn copy_runs_apart(
     copies::copy_slice(slots, behind, &from[..n - front]);
 }
 
-// Copies the `n` elements from position `start` on of the queue `q`, whose slots are `from`, into other slots from `dst` on.
+// Copies the `n` elements from position `start` on of the queue `q`, whose slots are `from`, into other slots from
+// `dst` on.
 pub fn copy_range(
     slots: &mut [u32],
     dst: WrappedIndex,

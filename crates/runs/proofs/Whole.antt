@@ -59,8 +59,9 @@ module _ (b : List ℕ) (r : Rec) where
   unfolding held
   range-held s n g le lt =
       let h : r .head < length b = omega arith in
+      let low = place-low (length b) (r .head) h s (omega arith) in
       sym (ap (take n) (listOf-drop b (r .head) h s (r .len) (omega arith) (g .fits))
-      ∙ listOf-take b (place (length b) (r .head) s) (place-low (length b) (r .head) h s (omega arith)) n (r .len - s) (omega arith) (omega arith))
+      ∙ listOf-take b (place (length b) (r .head) s) low n (r .len - s) (omega arith) (omega arith))
 
   -- an accepted range: its runs are the range's elements, in order
   pub runs-range : (s e : ℕ) → onRange (length b) r s e ≡ 0 → frontRun b r s e ++ backRun b r s e ≡ take (e - s) (drop s (held b r))

@@ -37,23 +37,35 @@ sub-copy-slice-2 : tie.Need-sub-copy-slice-2
 sub-copy-slice-2 c = search needs
 
 slice-aggregate-copy-slice : tie.Need-slice-aggregate-copy-slice
-slice-aggregate-copy-slice c = sym (length-take-le _ (now (c .before .before .before .before .before .before .before .before .before .before .before .args .from)) (omega arith))
+slice-aggregate-copy-slice c =
+    sym (length-take-le _
+    (now (c .before .before .before .before .before .before .before .before .before .before .before .args .from))
+    (omega arith))
 
 copy-slice-requires-2 : tie.Need-copy-slice-requires-2
 copy-slice-requires-2 c κs =
     let st = c .before .before .before .before .before .before .before .before .before .before .before in
     let w = c .before .before .before .before .before .before .before .before .as-index in
-    back-fits (now (st .args .from)) (w .result) (st .args .n) (omega arith) (omega arith) (st .pre .0 .2) (now (st .args .slots)) _ _ _ (st .pre .1 .0) (st .pre .1 .1) (c .before .before .before .before .before .before .before .wrap-add .ensures) (c .before .before .before .before .copy-slice .ensures) (st .pre .1 .2)
+    back-fits (now (st .args .from)) (w .result) (st .args .n) (omega arith) (omega arith) (st .pre .0 .2)
+    (now (st .args .slots)) _ _ _ (st .pre .1 .0) (st .pre .1 .1)
+    (c .before .before .before .before .before .before .before .wrap-add .ensures)
+    (c .before .before .before .before .copy-slice .ensures) (st .pre .1 .2)
 
 same-length : tie.Need-same-length
 same-length c = search needs
 
 returns : tie.Need-returns
 returns c =
-    let st = c .before .before .before .before .before .before .before .before .before .before .before .before .before .before in
+    let st =
+    c .before .before .before .before .before .before .before .before .before .before .before .before .before
+    .before in
     let w = c .before .before .before .before .before .before .before .before .before .before .before .as-index in
     let n = st .args .n in
-    both-laid (now (st .args .from)) (w .result) n (omega arith) (omega arith) (st .pre .0 .2) (now (st .args .slots)) (st .args .dst .0) _ _ (st .pre .1 .0) (st .pre .1 .1) (c .before .before .before .before .before .before .before .before .before .before .wrap-add .ensures) (c .before .before .before .before .before .before .before .copy-slice .ensures) _ (c .before .before .copy-slice2 .ensures)
+    both-laid (now (st .args .from)) (w .result) n (omega arith) (omega arith) (st .pre .0 .2) (now (st .args .slots))
+    (st .args .dst .0) _ _ (st .pre .1 .0) (st .pre .1 .1)
+    (c .before .before .before .before .before .before .before .before .before .before .wrap-add .ensures)
+    (c .before .before .before .before .before .before .before .copy-slice .ensures) _
+    (c .before .before .copy-slice2 .ensures)
     ∙ (λ t. lay (now (st .args .slots)) (st .args .dst .0) (listOf (now (st .args .from)) (w .ensures t) n))
 
 pub copy-runs-apart-spec : {M : Type 1} → statement M

@@ -1,4 +1,5 @@
--- `comparisons::in_runs::stands_in` meets its contract: the runs passed, and the elements passed of the run at hand, are not x. Assumes nothing.
+-- `comparisons::in_runs::stands_in` meets its contract: the runs passed, and the elements passed of the run at hand,
+-- are not x. Assumes nothing.
 use mathlib.Core.Bool.{false}
 use mathlib.Core.Logic.{_⊎_, ⊎-elim, inl, inr}
 use mathlib.Core.Path.{_≡_, ap}
