@@ -3,6 +3,10 @@ use queue::Deque;
 use queue::Drain;
 use queue::Refusal;
 use queue::Walk;
+ghost use mathlib.Core.Option.{none};
+ghost use mathlib.Core.Path.{_≡_};
+ghost use Rattle.queue.specs.Answers.{numberOf, answer};
+ghost use Rattle.elements.specs.Answers.{ofHanded};
 
 // What a call handed over.
 pub enum Given {
@@ -26,6 +30,17 @@ pub enum Handed {
         queue: Deque,
         moved: usize,
     },
+}
+
+// The answer of a call that hands an element over and is refused: the same record, and nothing moved.
+pub fn refused(refusal: Refusal, q: Deque) -> Handed
+    ensures { λ r. ⌜ ofHanded r ≡ answer (numberOf refusal) 0 q none ⌝ }
+{
+    Handed::Refused {
+        refusal,
+        queue: q,
+        moved: 0,
+    }
 }
 
 // The answer of `drain_next` and `drain_next_back`. Nothing comes without change.

@@ -7,5 +7,6 @@ pub use answers::Found;
 pub use answers::Given;
 pub use answers::Handed;
 pub use answers::Stepped;
+pub use answers::refused;
 pub use slots::element;
 pub use slots::fresh;

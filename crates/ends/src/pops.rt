@@ -17,11 +17,7 @@ pub fn pop_front(slots: &[u32], q: Deque) -> Handed
 {
     let cap = slots.len();
     if let Checked::Refused(refusal) = queue::check_change(cap, q) {
-        return Handed::Refused {
-            refusal,
-            queue: q,
-            moved: 0,
-        };
+        return elements::refused(refusal, q);
     }
     let len = q.len;
     if len > 0 {
@@ -44,11 +40,7 @@ pub fn pop_back(slots: &[u32], q: Deque) -> Handed
 {
     let cap = slots.len();
     if let Checked::Refused(refusal) = queue::check_change(cap, q) {
-        return Handed::Refused {
-            refusal,
-            queue: q,
-            moved: 0,
-        };
+        return elements::refused(refusal, q);
     }
     let len = q.len;
     if len > 0 {

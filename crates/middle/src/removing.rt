@@ -60,11 +60,7 @@ pub fn remove(slots: &mut [u32], q: Deque, index: usize) -> Handed
 {
     let cap = slots.len();
     if let Checked::Refused(refusal) = queue::check_change(cap, q) {
-        return Handed::Refused {
-            refusal,
-            queue: q,
-            moved: 0,
-        };
+        return elements::refused(refusal, q);
     }
     let len = q.len;
     if index >= len {

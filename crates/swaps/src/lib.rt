@@ -58,11 +58,7 @@ pub fn swap_remove_front(slots: &mut [u32], q: Deque, index: usize) -> Handed
 {
     let cap = slots.len();
     if let Checked::Refused(refusal) = queue::check_change(cap, q) {
-        return Handed::Refused {
-            refusal,
-            queue: q,
-            moved: 0,
-        };
+        return elements::refused(refusal, q);
     }
     let len = q.len;
     if index >= len {
@@ -87,11 +83,7 @@ pub fn swap_remove_back(slots: &mut [u32], q: Deque, index: usize) -> Handed
 {
     let cap = slots.len();
     if let Checked::Refused(refusal) = queue::check_change(cap, q) {
-        return Handed::Refused {
-            refusal,
-            queue: q,
-            moved: 0,
-        };
+        return elements::refused(refusal, q);
     }
     let len = q.len;
     if index >= len {

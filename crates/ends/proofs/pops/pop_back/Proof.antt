@@ -33,8 +33,13 @@ check-change-requires c κs = search needs
 enum-known-refusal : tie.Need-enum-known-refusal
 enum-known-refusal c = search needs
 
+refused-requires : tie.Need-refused-requires
+refused-requires c κs = search needs
+
 returns : tie.Need-returns
-returns c = told-first _ _ _ (c .before .before .before .check-change .ensures) _ _ (c .before .refusal .given .1)
+returns c =
+    rw (c .refused .ensures)
+    (told-first _ _ _ (c .before .before .before .before .check-change .ensures) _ _ (c .before .before .refusal .given .1))
 
 enum-told : tie.Need-enum-told
 enum-told c = search needs
@@ -72,6 +77,7 @@ pop-back-spec =
     (tie.spec
     check-change-requires
     enum-known-refusal
+    refused-requires
     returns
     enum-told
     sub-wrap-add
