@@ -1,4 +1,6 @@
 // The calls of a drain, and `splice`.
+use replies::DRAIN;
+use replies::RECORD;
 use replies::Reply;
 use replies::changed;
 use replies::closed;
@@ -7,9 +9,9 @@ use replies::drain_in;
 use replies::drawn;
 use replies::opened;
 ghost use mathlib.Core.Path.{_≡_};
-ghost use Rattle.rules.specs.Outcome.{shut, drawn, doRule, doOpen, doNext, doNextBack, doClose};
+ghost use Rattle.rules.specs.Outcome.{doRule, doOpen, doNext, doNextBack, doClose};
 ghost use Rattle.rules.specs.Splice.{splice};
-ghost use Rattle.replies.specs.InC.{toldInC, openingToldInC, closingToldInC};
+ghost use Rattle.replies.specs.InC.{toldInC};
 ghost use Rattle.replies.specs.Records.{recIn, drainIn};
 ghost use Rattle.replies.specs.Replies.{ofReply};
 
@@ -17,12 +19,13 @@ ghost use Rattle.replies.specs.Replies.{ofReply};
 #[no_mangle]
 pub extern "C" fn scorebucket_drain(
     slots: &[u32],
-    q: &[usize; 2],
+    q: &[usize; RECORD],
     start: usize,
     end: usize,
-    d: &mut [usize; 6],
+    d: &mut [usize; DRAIN],
 ) -> Reply
-    ensures { λ r. ⌜ (ofReply r, drainIn (now (d .exit)), now (slots .entry)) ≡ openingToldInC (drainIn (now (d .entry))) (doOpen (now (slots .entry)) (recIn (now (q .entry))) start end) ⌝ }
+    ensures { λ r. ⌜ (ofReply r, now (d .exit), now (slots .entry))
+        ≡ toldInC (now (d .entry)) (doOpen (now (slots .entry)) (recIn (now (q .entry))) start end) ⌝ }
 {
     let before = deque_in(q);
     opened(d, drains::drain(slots, before, start, end))
@@ -30,8 +33,9 @@ pub extern "C" fn scorebucket_drain(
 
 // Hands the first remaining element over.
 #[no_mangle]
-pub extern "C" fn scorebucket_drain_next(slots: &[u32], d: &mut [usize; 6]) -> Reply
-    ensures { λ r. ⌜ (ofReply r, drawn (drainIn (now (d .exit))), now (slots .entry)) ≡ toldInC (doNext (now (slots .entry)) (drainIn (now (d .entry)))) ⌝ }
+pub extern "C" fn scorebucket_drain_next(slots: &[u32], d: &mut [usize; DRAIN]) -> Reply
+    ensures { λ r. ⌜ (ofReply r, now (d .exit), now (slots .entry))
+        ≡ toldInC (now (d .entry)) (doNext (now (slots .entry)) (drainIn (now (d .entry)))) ⌝ }
 {
     let before = drain_in(d);
     drawn(d, drains::drain_next(slots, before))
@@ -39,8 +43,9 @@ pub extern "C" fn scorebucket_drain_next(slots: &[u32], d: &mut [usize; 6]) -> R
 
 // Hands the last remaining element over.
 #[no_mangle]
-pub extern "C" fn scorebucket_drain_next_back(slots: &[u32], d: &mut [usize; 6]) -> Reply
-    ensures { λ r. ⌜ (ofReply r, drawn (drainIn (now (d .exit))), now (slots .entry)) ≡ toldInC (doNextBack (now (slots .entry)) (drainIn (now (d .entry)))) ⌝ }
+pub extern "C" fn scorebucket_drain_next_back(slots: &[u32], d: &mut [usize; DRAIN]) -> Reply
+    ensures { λ r. ⌜ (ofReply r, now (d .exit), now (slots .entry))
+        ≡ toldInC (now (d .entry)) (doNextBack (now (slots .entry)) (drainIn (now (d .entry)))) ⌝ }
 {
     let before = drain_in(d);
     drawn(d, drains::drain_next_back(slots, before))
@@ -50,10 +55,11 @@ pub extern "C" fn scorebucket_drain_next_back(slots: &[u32], d: &mut [usize; 6])
 #[no_mangle]
 pub extern "C" fn scorebucket_drain_close(
     slots: &mut [u32],
-    d: &[usize; 6],
-    q: &mut [usize; 2],
+    d: &[usize; DRAIN],
+    q: &mut [usize; RECORD],
 ) -> Reply
-    ensures { λ r. ⌜ (ofReply r, recIn (now (q .exit)), now (slots .exit)) ≡ closingToldInC (recIn (now (q .entry))) (doClose (now (slots .entry)) (drainIn (now (d .entry)))) ⌝ }
+    ensures { λ r. ⌜ (ofReply r, now (q .exit), now (slots .exit))
+        ≡ toldInC (now (q .entry)) (doClose (now (slots .entry)) (drainIn (now (d .entry)))) ⌝ }
 {
     let before = drain_in(d);
     closed(q, drains::drain_close(slots, before))
@@ -63,12 +69,14 @@ pub extern "C" fn scorebucket_drain_close(
 #[no_mangle]
 pub extern "C" fn scorebucket_splice(
     slots: &mut [u32],
-    q: &mut [usize; 2],
+    q: &mut [usize; RECORD],
     start: usize,
     end: usize,
     values: &[u32],
 ) -> Reply
-    ensures { λ r. ⌜ (ofReply r, shut (recIn (now (q .exit))), now (slots .exit)) ≡ toldInC (doRule (now (slots .entry)) (recIn (now (q .entry))) (splice start end (now (values .entry)))) ⌝ }
+    ensures { λ r. ⌜ (ofReply r, now (q .exit), now (slots .exit))
+        ≡ toldInC (now (q .entry))
+        (doRule (now (slots .entry)) (recIn (now (q .entry))) (splice start end (now (values .entry)))) ⌝ }
 {
     let before = deque_in(q);
     changed(q, splices::splice(slots, before, start, end, values))

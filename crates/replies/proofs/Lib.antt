@@ -1,3 +1,3 @@
--- `Stored`: records and their numbers. `Arms`: how an arm of a match is read.
+-- `Stored`: records and their words. `Arms`: how an arm of a match is read.
 pub mod Stored
 pub mod Arms

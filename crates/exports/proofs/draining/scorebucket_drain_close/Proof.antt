@@ -1,7 +1,6 @@
 -- `exports::draining::scorebucket_drain_close` meets its contract. Assumes nothing.
 use mathlib.Core.Path.{ap}
 use Rattle.exports.proofs.Crossing.{on-record}
-use Rattle.replies.specs.InC.{closingInC}
 use Rattle.rules.specs.Outcome.{doClose}
 use borrow.Author.Needs.{needs}
 use Rattle.exports.proofs.draining.scorebucket_drain_close.Statement.{statement}
@@ -20,7 +19,7 @@ same-length : tie.Need-same-length
 same-length c = search needs
 
 returns : tie.Need-returns
-returns c = on-record (closingInC _) _ _ _ _ _ _ (ap (doClose _) (c .before .before .before .before .before .before .drain-in .ensures)) (c .closed .ensures) (c .before .before .before .drain-close .ensures)
+returns c = on-record _ _ _ _ _ _ _ (ap (doClose _) (c .before .before .before .before .before .before .drain-in .ensures)) (c .closed .ensures) (c .before .before .before .drain-close .ensures)
 
 pub scorebucket-drain-close-spec : {M : Type 1} → statement M
 scorebucket-drain-close-spec =

@@ -1,7 +1,6 @@
 -- `exports::draining::scorebucket_drain_next` meets its contract. Assumes nothing.
 use mathlib.Core.Path.{ap}
 use Rattle.exports.proofs.Crossing.{on-record}
-use Rattle.replies.specs.InC.{answerInC}
 use Rattle.rules.specs.Outcome.{doNext}
 use borrow.Author.Needs.{needs}
 use Rattle.exports.proofs.draining.scorebucket_drain_next.Statement.{statement}
@@ -17,7 +16,7 @@ drawn-requires : tie.Need-drawn-requires
 drawn-requires c κs = search needs
 
 returns : tie.Need-returns
-returns c = on-record answerInC _ _ _ _ _ _ (ap (doNext _) (c .before .before .before .drain-in .ensures)) (c .drawn .ensures) (c .before .drain-next .ensures)
+returns c = on-record _ _ _ _ _ _ _ (ap (doNext _) (c .before .before .before .drain-in .ensures)) (c .drawn .ensures) (c .before .drain-next .ensures)
 
 pub scorebucket-drain-next-spec : {M : Type 1} → statement M
 scorebucket-drain-next-spec =

@@ -1,7 +1,6 @@
 -- `exports::draining::scorebucket_drain_next_back` meets its contract. Assumes nothing.
 use mathlib.Core.Path.{ap}
 use Rattle.exports.proofs.Crossing.{on-record}
-use Rattle.replies.specs.InC.{answerInC}
 use Rattle.rules.specs.Outcome.{doNextBack}
 use borrow.Author.Needs.{needs}
 use Rattle.exports.proofs.draining.scorebucket_drain_next_back.Statement.{statement}
@@ -17,7 +16,7 @@ drawn-requires : tie.Need-drawn-requires
 drawn-requires c κs = search needs
 
 returns : tie.Need-returns
-returns c = on-record answerInC _ _ _ _ _ _ (ap (doNextBack _) (c .before .before .before .drain-in .ensures)) (c .drawn .ensures) (c .before .drain-next-back .ensures)
+returns c = on-record _ _ _ _ _ _ _ (ap (doNextBack _) (c .before .before .before .drain-in .ensures)) (c .drawn .ensures) (c .before .drain-next-back .ensures)
 
 pub scorebucket-drain-next-back-spec : {M : Type 1} → statement M
 scorebucket-drain-next-back-spec =
