@@ -1,9 +1,8 @@
 /* Scorebucket: a double-ended queue of uint32_t in slots that the caller lends.
  *
- * Link with the archive that `sh tools/native.sh . exports` makes, or on x86-64 with those of `rt staticlib exports` and
- * `rt staticlib exports_looks`. Every function is proved to do what the queue's rules say (crates/exports/src and
- * crates/exports_looks/src hold the contracts), for any record and any numbers: a record that is not good, a position past the end or
- * a queue without room is refused, and never read or written past the slots.
+ * Link with the archive that `sh tools/native.sh . exports` makes. Every function is proved to do what the queue's rules say (the src
+ * folders of crates/exports, exports_joins and exports_looks hold the contracts), for any record and any numbers: a record that is not
+ * good, a position past the end or a queue without room is refused, and never read or written past the slots.
  *
  * Memory: the slots are the caller's, and so is every other pointer. Nothing is allocated, freed or kept: a call uses its pointers until it returns.
  * The number of slots is the capacity, at most 16,000. A queue is its slots and a small record {head, len}: every call takes the

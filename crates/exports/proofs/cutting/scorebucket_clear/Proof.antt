@@ -1,5 +1,5 @@
 -- `exports::cutting::scorebucket_clear` meets its contract. Assumes nothing.
-use Rattle.exports.proofs.Crossing.{by-rule}
+use Rattle.replies.proofs.Crossing.{by-rule}
 use borrow.Author.Needs.{needs}
 use Rattle.exports.proofs.cutting.scorebucket_clear.Statement.{statement}
 use Rattle.exports.proofs.cutting.scorebucket_clear.Tie as tie

@@ -1,5 +1,5 @@
 -- `exports::cutting::scorebucket_truncate` meets its contract. Assumes nothing.
-use Rattle.exports.proofs.Crossing.{by-rule}
+use Rattle.replies.proofs.Crossing.{by-rule}
 use borrow.Author.Needs.{needs}
 use Rattle.exports.proofs.cutting.scorebucket_truncate.Statement.{statement}
 use Rattle.exports.proofs.cutting.scorebucket_truncate.Tie as tie

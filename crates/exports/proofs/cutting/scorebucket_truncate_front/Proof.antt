@@ -1,5 +1,5 @@
 -- `exports::cutting::scorebucket_truncate_front` meets its contract. Assumes nothing.
-use Rattle.exports.proofs.Crossing.{by-rule}
+use Rattle.replies.proofs.Crossing.{by-rule}
 use borrow.Author.Needs.{needs}
 use Rattle.exports.proofs.cutting.scorebucket_truncate_front.Statement.{statement}
 use Rattle.exports.proofs.cutting.scorebucket_truncate_front.Tie as tie

@@ -1,5 +1,5 @@
 -- `exports::inserting::scorebucket_insert` meets its contract. Assumes nothing.
-use Rattle.exports.proofs.Crossing.{by-rule}
+use Rattle.replies.proofs.Crossing.{by-rule}
 use borrow.Author.Needs.{needs}
 use Rattle.exports.proofs.inserting.scorebucket_insert.Statement.{statement}
 use Rattle.exports.proofs.inserting.scorebucket_insert.Tie as tie

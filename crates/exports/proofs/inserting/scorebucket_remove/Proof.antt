@@ -1,5 +1,5 @@
 -- `exports::inserting::scorebucket_remove` meets its contract. Assumes nothing.
-use Rattle.exports.proofs.Crossing.{by-rule}
+use Rattle.replies.proofs.Crossing.{by-rule}
 use borrow.Author.Needs.{needs}
 use Rattle.exports.proofs.inserting.scorebucket_remove.Statement.{statement}
 use Rattle.exports.proofs.inserting.scorebucket_remove.Tie as tie

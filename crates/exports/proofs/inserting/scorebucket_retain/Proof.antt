@@ -1,6 +1,6 @@
 -- `exports::inserting::scorebucket_retain` meets its contract. Assumes nothing.
 use Rattle.exports.proofs.ByTest.{by-test, no-test}
-use Rattle.exports.proofs.Crossing.{by-rule}
+use Rattle.replies.proofs.Crossing.{by-rule}
 use Rattle.rules.specs.Middle.{retain}
 use borrow.Author.Needs.{needs}
 use Rattle.exports.proofs.inserting.scorebucket_retain.Statement.{statement}

@@ -1,6 +1,6 @@
 -- `exports::popping::scorebucket_pop_back_if` meets its contract. Assumes nothing.
 use Rattle.exports.proofs.ByTest.{by-test, no-test}
-use Rattle.exports.proofs.Crossing.{by-rule}
+use Rattle.replies.proofs.Crossing.{by-rule}
 use Rattle.rules.specs.Ends.{popBackIf}
 use borrow.Author.Needs.{needs}
 use Rattle.exports.proofs.popping.scorebucket_pop_back_if.Statement.{statement}

@@ -1,5 +1,5 @@
 -- `exports::pushing::scorebucket_push_front` meets its contract. Assumes nothing.
-use Rattle.exports.proofs.Crossing.{by-rule}
+use Rattle.replies.proofs.Crossing.{by-rule}
 use borrow.Author.Needs.{needs}
 use Rattle.exports.proofs.pushing.scorebucket_push_front.Statement.{statement}
 use Rattle.exports.proofs.pushing.scorebucket_push_front.Tie as tie

@@ -1,5 +1,5 @@
 -- `exports::swapping::scorebucket_swap` meets its contract. Assumes nothing.
-use Rattle.exports.proofs.Crossing.{by-rule}
+use Rattle.replies.proofs.Crossing.{by-rule}
 use borrow.Author.Needs.{needs}
 use Rattle.exports.proofs.swapping.scorebucket_swap.Statement.{statement}
 use Rattle.exports.proofs.swapping.scorebucket_swap.Tie as tie

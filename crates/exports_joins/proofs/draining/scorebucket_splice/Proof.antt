@@ -1,8 +1,8 @@
--- `exports::draining::scorebucket_splice` meets its contract. Assumes nothing.
-use Rattle.exports.proofs.Crossing.{by-rule}
+-- `exports_joins::draining::scorebucket_splice` meets its contract. Assumes nothing.
+use Rattle.replies.proofs.Crossing.{by-rule}
 use borrow.Author.Needs.{needs}
-use Rattle.exports.proofs.draining.scorebucket_splice.Statement.{statement}
-use Rattle.exports.proofs.draining.scorebucket_splice.Tie as tie
+use Rattle.exports_joins.proofs.draining.scorebucket_splice.Statement.{statement}
+use Rattle.exports_joins.proofs.draining.scorebucket_splice.Tie as tie
 
 deque-in-requires : tie.Need-deque-in-requires
 deque-in-requires c κs = search needs

@@ -1,8 +1,8 @@
--- `exports::joining::scorebucket_extend` meets its contract. Assumes nothing.
-use Rattle.exports.proofs.Crossing.{by-rule}
+-- `exports_joins::joining::scorebucket_extend` meets its contract. Assumes nothing.
+use Rattle.replies.proofs.Crossing.{by-rule}
 use borrow.Author.Needs.{needs}
-use Rattle.exports.proofs.joining.scorebucket_extend.Statement.{statement}
-use Rattle.exports.proofs.joining.scorebucket_extend.Tie as tie
+use Rattle.exports_joins.proofs.joining.scorebucket_extend.Statement.{statement}
+use Rattle.exports_joins.proofs.joining.scorebucket_extend.Tie as tie
 
 deque-in-requires : tie.Need-deque-in-requires
 deque-in-requires c κs = search needs

@@ -1,10 +1,10 @@
--- `exports::draining::scorebucket_drain_next_back` meets its contract. Assumes nothing.
+-- `exports_joins::draining::scorebucket_drain_next_back` meets its contract. Assumes nothing.
 use mathlib.Core.Path.{ap}
-use Rattle.exports.proofs.Crossing.{on-record}
+use Rattle.replies.proofs.Crossing.{on-record}
 use Rattle.rules.specs.Outcome.{doNextBack}
 use borrow.Author.Needs.{needs}
-use Rattle.exports.proofs.draining.scorebucket_drain_next_back.Statement.{statement}
-use Rattle.exports.proofs.draining.scorebucket_drain_next_back.Tie as tie
+use Rattle.exports_joins.proofs.draining.scorebucket_drain_next_back.Statement.{statement}
+use Rattle.exports_joins.proofs.draining.scorebucket_drain_next_back.Tie as tie
 
 drain-in-requires : tie.Need-drain-in-requires
 drain-in-requires c κs = search needs

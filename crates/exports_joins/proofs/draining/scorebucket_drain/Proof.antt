@@ -1,8 +1,8 @@
--- `exports::draining::scorebucket_drain` meets its contract. Assumes nothing.
-use Rattle.exports.proofs.Crossing.{opens}
+-- `exports_joins::draining::scorebucket_drain` meets its contract. Assumes nothing.
+use Rattle.exports_joins.proofs.Pairs.{opens}
 use borrow.Author.Needs.{needs}
-use Rattle.exports.proofs.draining.scorebucket_drain.Statement.{statement}
-use Rattle.exports.proofs.draining.scorebucket_drain.Tie as tie
+use Rattle.exports_joins.proofs.draining.scorebucket_drain.Statement.{statement}
+use Rattle.exports_joins.proofs.draining.scorebucket_drain.Tie as tie
 
 deque-in-requires : tie.Need-deque-in-requires
 deque-in-requires c κs = search needs

@@ -1,8 +1,8 @@
--- `exports::joining::scorebucket_append` meets its contract. Assumes nothing.
-use Rattle.exports.proofs.Crossing.{appends}
+-- `exports_joins::joining::scorebucket_append` meets its contract. Assumes nothing.
+use Rattle.exports_joins.proofs.Pairs.{appends}
 use borrow.Author.Needs.{needs}
-use Rattle.exports.proofs.joining.scorebucket_append.Statement.{statement}
-use Rattle.exports.proofs.joining.scorebucket_append.Tie as tie
+use Rattle.exports_joins.proofs.joining.scorebucket_append.Statement.{statement}
+use Rattle.exports_joins.proofs.joining.scorebucket_append.Tie as tie
 
 deque-in-requires : tie.Need-deque-in-requires
 deque-in-requires c κs = search needs

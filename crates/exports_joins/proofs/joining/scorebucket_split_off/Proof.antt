@@ -1,8 +1,8 @@
--- `exports::joining::scorebucket_split_off` meets its contract. Assumes nothing.
-use Rattle.exports.proofs.Crossing.{splits}
+-- `exports_joins::joining::scorebucket_split_off` meets its contract. Assumes nothing.
+use Rattle.exports_joins.proofs.Pairs.{splits}
 use borrow.Author.Needs.{needs}
-use Rattle.exports.proofs.joining.scorebucket_split_off.Statement.{statement}
-use Rattle.exports.proofs.joining.scorebucket_split_off.Tie as tie
+use Rattle.exports_joins.proofs.joining.scorebucket_split_off.Statement.{statement}
+use Rattle.exports_joins.proofs.joining.scorebucket_split_off.Tie as tie
 
 deque-in-requires : tie.Need-deque-in-requires
 deque-in-requires c κs = search needs
