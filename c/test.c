@@ -148,7 +148,8 @@ static void test_looks(void)
     uint32_t s[6], t[6];
     deque q = wrapped(s), other = wrapped(t);
     struct scorebucket_runs g = {{9, 9}, {9, 9}};
-    EXPECT(scorebucket_slice_ranges(s, 6, &q, 1, 5, &g) == SCOREBUCKET_POSITION && g.front.start == 9 && g.back.end == 9);
+    EXPECT(scorebucket_slice_ranges(s, 6, &q, 1, 5, &g) == SCOREBUCKET_POSITION);
+    EXPECT(g.front.start == 9 && g.back.end == 9);
     EXPECT(scorebucket_slice_ranges(s, 6, &q, 1, 4, &g) == 0);
     EXPECT(g.front.start == 5 && g.front.end == 6 && g.back.start == 0 && g.back.end == 2);
     EXPECT(scorebucket_contains(s, 6, &q, 30).is && !scorebucket_contains(s, 6, &q, 7).is);

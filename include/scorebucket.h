@@ -1,20 +1,22 @@
 /* Scorebucket: a double-ended queue of uint32_t in slots that the caller lends.
  *
- * Link with the archive that `sh tools/native.sh . exports` makes. Every function is proved to do what the queue's rules say (the src
- * folders of crates/exports, exports_joins and exports_looks hold the contracts), for any record and any numbers: a record that is not
- * good, a position past the end or a queue without room is refused, and never read or written past the slots.
+ * Link with the archive that `sh tools/native.sh . exports` makes. Every function is proved to do what the queue's rules
+ * say (the src folders of crates/exports, exports_joins and exports_looks hold the contracts), for any record and any
+ * numbers: a record that is not good, a position past the end or a queue without room is refused, and never read or
+ * written past the slots.
  *
  * Memory: the slots are the caller's, and so is every other pointer. Nothing is allocated, freed or kept: a call uses its pointers until it returns.
- * The number of slots is the capacity, at most 16,000. A queue is its slots and a small record {head, len}: every call takes the
- * record's address, and a call that changes the queue changes it there. Calls on different slots and records may run at the same time.
+ * The number of slots is the capacity, at most 16,000. A queue is its slots and a small record {head, len}: every call
+ * takes the record's address, and a call that changes the queue changes it there. Calls on different slots and records may
+ * run at the same time.
  *
  * What a caller must see to, since no call can test it:
  *   - a pointer is not null (with length 0 it may point anywhere else), aligned for what it points to, and its length is no more than what stands there;
  *   - what is written by a call (a pointer without `const`) overlaps nothing else that is lent to the same call. Two `const` pointers may overlap;
  *   - while a drain is open, its queue's slots are used by that drain's calls alone, and the queue's record by none; a drain is closed once.
  *
- * Answers: `refused` is 0, or the number of a refusal; refused, no slot and no word of a record is stored, and all else is 0. An answer
- * has two words at most, and comes back in registers.
+ * Answers: `refused` is 0, or the number of a refusal; refused, no slot and no word of a record is stored, and all else
+ * is 0. An answer has two words at most, and comes back in registers.
  * `moved` says how many elements now stand in another slot. `handed` is 1 where `number` was handed over; where there was nothing, both are 0. */
 #ifndef SCOREBUCKET_H
 #define SCOREBUCKET_H
@@ -125,7 +127,8 @@ struct scorebucket_reply scorebucket_pop_front_if(const uint32_t *slots, size_t 
 /* Hands the last element over, if it meets the test. Refusal: 3, for an unknown kind. */
 struct scorebucket_reply scorebucket_pop_back_if(const uint32_t *slots, size_t cap, struct scorebucket_deque *q, uint32_t kind, uint32_t k);
 /* Looks at the element at position i. */
-struct scorebucket_found_reply scorebucket_get(const uint32_t *slots, size_t cap, const struct scorebucket_deque *q, size_t i);
+struct scorebucket_found_reply scorebucket_get(const uint32_t *slots, size_t cap, const struct scorebucket_deque *q,
+    size_t i);
 /* Looks at the first element. */
 struct scorebucket_found_reply scorebucket_front(const uint32_t *slots, size_t cap, const struct scorebucket_deque *q);
 /* Looks at the last element. */
@@ -186,31 +189,38 @@ struct scorebucket_reply scorebucket_splice(uint32_t *slots, size_t cap, struct 
 /* ---- runs and walks */
 
 /* Stores the two runs of positions start..end: the elements of `front`, then those of `back`, as parts of the slots. Gives the refusal number, or 0; refused, `runs` is as it was. Refusal: 3. */
-uint16_t scorebucket_slice_ranges(const uint32_t *slots, size_t cap, const struct scorebucket_deque *q, size_t start, size_t end, struct scorebucket_runs *runs);
+uint16_t scorebucket_slice_ranges(const uint32_t *slots, size_t cap, const struct scorebucket_deque *q, size_t start,
+    size_t end, struct scorebucket_runs *runs);
 /* Begins a walk over the whole list. Gives the refusal number, or 0. */
-uint16_t scorebucket_begin_walk(const uint32_t *slots, size_t cap, const struct scorebucket_deque *q, struct scorebucket_walk *w);
+uint16_t scorebucket_begin_walk(const uint32_t *slots, size_t cap, const struct scorebucket_deque *q,
+    struct scorebucket_walk *w);
 /* Gives the element at the walk's low end, which steps on by one. */
 struct scorebucket_found_reply scorebucket_walk_next(const uint32_t *slots, size_t cap, struct scorebucket_walk *w);
 /* Gives the element before the walk's high end, which steps back by one. */
-struct scorebucket_found_reply scorebucket_walk_next_back(const uint32_t *slots, size_t cap, struct scorebucket_walk *w);
+struct scorebucket_found_reply scorebucket_walk_next_back(const uint32_t *slots, size_t cap,
+    struct scorebucket_walk *w);
 
 /* ---- comparing and searching */
 
 /* Says whether x stands in the queue. */
-struct scorebucket_truth_reply scorebucket_contains(const uint32_t *slots, size_t cap, const struct scorebucket_deque *q, uint32_t x);
+struct scorebucket_truth_reply scorebucket_contains(const uint32_t *slots, size_t cap,
+    const struct scorebucket_deque *q, uint32_t x);
 /* Says whether the two queues hold the same list. Refusals: the other's 1 and 2, too. */
 struct scorebucket_truth_reply scorebucket_eq(const uint32_t *slots, size_t cap, const struct scorebucket_deque *q, const uint32_t *other_slots, size_t other_cap, const struct scorebucket_deque *other);
 /* Says how the queue's list stands to the other's in lexicographic order. Refusals: the other's 1 and 2, too. */
 struct scorebucket_order_reply scorebucket_cmp(const uint32_t *slots, size_t cap, const struct scorebucket_deque *q, const uint32_t *other_slots, size_t other_cap, const struct scorebucket_deque *other);
 /* Searches a sorted queue for x by halving. */
-struct scorebucket_search_reply scorebucket_binary_search(const uint32_t *slots, size_t cap, const struct scorebucket_deque *q, uint32_t x);
+struct scorebucket_search_reply scorebucket_binary_search(const uint32_t *slots, size_t cap,
+    const struct scorebucket_deque *q, uint32_t x);
 /* Counts the elements that meet the test in a queue in which all of them stand before all others. Refusal: 3, for an unknown kind. */
-struct scorebucket_count_reply scorebucket_partition_point(const uint32_t *slots, size_t cap, const struct scorebucket_deque *q, uint32_t kind, uint32_t k);
+struct scorebucket_count_reply scorebucket_partition_point(const uint32_t *slots, size_t cap,
+    const struct scorebucket_deque *q, uint32_t kind, uint32_t k);
 
 /* ---- saved images */
 
 /* Writes the queue's image, 3 + 4 * len bytes, to the start of the target, and gives their number. Refusal: 4. */
-struct scorebucket_count_reply scorebucket_write_image(const uint32_t *slots, size_t cap, const struct scorebucket_deque *q, uint8_t *target, size_t n);
+struct scorebucket_count_reply scorebucket_write_image(const uint32_t *slots, size_t cap,
+    const struct scorebucket_deque *q, uint8_t *target, size_t n);
 /* Makes a queue from an image, in bare slots. Refusals: 1, 5, 4. */
 struct scorebucket_reply scorebucket_read_image(uint32_t *slots, size_t cap, struct scorebucket_deque *q, const uint8_t *bytes, size_t n);
 

@@ -27,13 +27,14 @@ kind-refused cap r none-given = let none-left = queue-ok cap r 3 none-given .1 i
 -- old are the words of the record r
 module _ (b : List ℕ) (r : Rec) (old : List ℕ) (a : Asked) (o : Option Test) (told : ofAsked a ≡ o) where
   -- the kind has a test
-  pub by-test : (R : Test → Rule) (x : Asking) (p : Said × List ℕ × List ℕ) → a ≡ For x → p ≡ toldInC old (doRule b r (R (testOf x)))
-      → p ≡ toldInC old (doTested b r o R)
+  pub by-test : (R : Test → Rule) (x : Asking) (p : Said × List ℕ × List ℕ) → a ≡ For x
+      → p ≡ toldInC old (doRule b r (R (testOf x))) → p ≡ toldInC old (doTested b r o R)
   unfolding doTested
   by-test R x p is does = does ∙ ap (λ (t : Option Test). toldInC old (doTested b r t R)) (sym (ap ofAsked is) ∙ told)
 
   -- it has none: no word is stored, and r′ is the record that the answer p was made of
-  pub no-test : (R : Test → Rule) (r′ : Rec) (p : Said) → r′ ≡ r → a ≡ Unknown → p ≡ said (refusedKind (length b) r′) 0 none
+  pub no-test : (R : Test → Rule) (r′ : Rec) (p : Said) → r′ ≡ r → a ≡ Unknown
+      → p ≡ said (refusedKind (length b) r′) 0 none
       → _≡_ {A = Said × List ℕ × List ℕ} (p, old, b) (toldInC old (doTested b r o R))
   unfolding doTested unchanged
   no-test R r′ p same is does =

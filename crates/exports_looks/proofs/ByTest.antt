@@ -17,12 +17,14 @@ use Rattle.exports_looks.specs.Kinds.{noSuchPoint, partitionTested}
 
 module _ (b : List ℕ) (r : Rec) (a : Asked) (o : Option Test) (told : ofAsked a ≡ o) where
   -- the kind has a test
-  pub by-point : (x : Asking) (p : ℕ × ℕ) → a ≡ For x → p ≡ countInC (partitionBy b r (testOf x)) → p ≡ countInC (partitionTested b r o)
+  pub by-point : (x : Asking) (p : ℕ × ℕ) → a ≡ For x → p ≡ countInC (partitionBy b r (testOf x))
+      → p ≡ countInC (partitionTested b r o)
   unfolding partitionTested
   by-point x p is does = does ∙ ap (λ (t : Option Test). countInC (partitionTested b r t)) (sym (ap ofAsked is) ∙ told)
 
   -- it has none: r′ is the record that the answer p was made of
-  pub no-point : (r′ : Rec) (p : ℕ × ℕ) → r′ ≡ r → a ≡ Unknown → p ≡ countInC (noSuchPoint (length b) r′) → p ≡ countInC (partitionTested b r o)
+  pub no-point : (r′ : Rec) (p : ℕ × ℕ) → r′ ≡ r → a ≡ Unknown → p ≡ countInC (noSuchPoint (length b) r′)
+      → p ≡ countInC (partitionTested b r o)
   unfolding partitionTested
   no-point r′ p same is does =
       does ∙ ap (λ (x : Rec). countInC (noSuchPoint (length b) x)) same

@@ -26,7 +26,8 @@ pub arm-refused : {A B C : Type 0} (f : B → ℕ × C) (o : A → B) (n k : ℕ
 arm-refused f o n k rest a a′ number makes is = arm-two f o n k rest rest a a′ number refl makes is
 
 -- refused: no word is stored
-pub stays : {S W : Type 0} (s : S) (x : Refusal) (new old : W) → _≡_ {A = S × W} (s, old) (s, unless (numberOf x) new old)
+pub stays : {S W : Type 0} (s : S) (x : Refusal) (new old : W)
+    → _≡_ {A = S × W} (s, old) (s, unless (numberOf x) new old)
 stays {S} {W} s x new old = ap (λ (w : W). (s, w)) (sym (unless-stop (numberOf x) new old (some-number x)))
 
 -- in neither of two records

@@ -1,5 +1,6 @@
--- What a call tells its caller, in plain numbers that are all set: so the contracts leave one possible struct, and one possible number in each word of his record.
--- Where a call is refused, or makes no record, the words stay as they were: `old`. Assumes nothing.
+-- What a call tells its caller, in plain numbers that are all set: so the contracts leave one possible struct, and one
+-- possible number in each word of his record. Where a call is refused, or makes no record, the words stay as they were:
+-- `old`. Assumes nothing.
 use mathlib.Core.Bool.{Bool, false}
 use mathlib.Core.List.{List}
 use mathlib.Core.Option.{Option, none, some}

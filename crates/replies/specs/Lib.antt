@@ -1,4 +1,4 @@
--- The records and the answers as a caller from C gets them, the structs as the contracts read them, and a test by its kind.
+-- The records and the answers as a caller from C gets them, the structs as the contracts read them, a test by its kind.
 pub mod Records
 pub mod InC
 pub mod Replies

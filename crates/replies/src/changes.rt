@@ -142,7 +142,8 @@ pub fn joined(q: &mut [usize; RECORD], other: &mut [usize; RECORD], joined: Join
 
 // Stores the record after `split_off` and the target's, if it was accepted.
 pub fn split(q: &mut [usize; RECORD], t: &mut [usize; RECORD], split: Split) -> Reply
-    ensures { λ r. ⌜ (ofReply r, now (q .exit), now (t .exit)) ≡ pairingInC (now (q .entry)) (now (t .entry)) (ofSplit split) ⌝ }
+    ensures { λ r. ⌜ (ofReply r, now (q .exit), now (t .exit))
+        ≡ pairingInC (now (q .entry)) (now (t .entry)) (ofSplit split) ⌝ }
 {
     match split {
         Split::Done {

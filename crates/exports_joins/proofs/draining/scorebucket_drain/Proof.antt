@@ -14,7 +14,9 @@ opened-requires : tie.Need-opened-requires
 opened-requires c κs = search needs
 
 returns : tie.Need-returns
-returns c = opens _ _ _ (c .before .before .before .deque-in .ensures) _ _ _ _ _ _ _ (c .opened .ensures) (c .before .drain .ensures)
+returns c =
+    opens _ _ _ (c .before .before .before .deque-in .ensures) _ _ _ _ _ _ _ (c .opened .ensures)
+    (c .before .drain .ensures)
 
 pub scorebucket-drain-spec : {M : Type 1} → statement M
 scorebucket-drain-spec =

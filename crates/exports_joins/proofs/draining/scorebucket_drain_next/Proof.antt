@@ -16,7 +16,9 @@ drawn-requires : tie.Need-drawn-requires
 drawn-requires c κs = search needs
 
 returns : tie.Need-returns
-returns c = on-record _ _ _ _ _ _ _ (ap (doNext _) (c .before .before .before .drain-in .ensures)) (c .drawn .ensures) (c .before .drain-next .ensures)
+returns c =
+    on-record _ _ _ _ _ _ _ (ap (doNext _) (c .before .before .before .drain-in .ensures)) (c .drawn .ensures)
+    (c .before .drain-next .ensures)
 
 pub scorebucket-drain-next-spec : {M : Type 1} → statement M
 scorebucket-drain-next-spec =

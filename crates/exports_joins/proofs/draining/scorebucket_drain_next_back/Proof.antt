@@ -16,7 +16,9 @@ drawn-requires : tie.Need-drawn-requires
 drawn-requires c κs = search needs
 
 returns : tie.Need-returns
-returns c = on-record _ _ _ _ _ _ _ (ap (doNextBack _) (c .before .before .before .drain-in .ensures)) (c .drawn .ensures) (c .before .drain-next-back .ensures)
+returns c =
+    on-record _ _ _ _ _ _ _ (ap (doNextBack _) (c .before .before .before .drain-in .ensures)) (c .drawn .ensures)
+    (c .before .drain-next-back .ensures)
 
 pub scorebucket-drain-next-back-spec : {M : Type 1} → statement M
 scorebucket-drain-next-back-spec =

@@ -17,7 +17,9 @@ same-length : tie.Need-same-length
 same-length c = search needs
 
 returns : tie.Need-returns
-returns c = splits _ _ _ (c .before .before .before .before .before .before .before .deque-in .ensures) _ _ _ _ _ _ _ _ _ _ (c .split .ensures) (c .before .before .before .split-off .ensures)
+returns c =
+    splits _ _ _ (c .before .before .before .before .before .before .before .deque-in .ensures) _ _ _ _ _ _ _ _ _ _
+    (c .split .ensures) (c .before .before .before .split-off .ensures)
 
 pub scorebucket-split-off-spec : {M : Type 1} → statement M
 scorebucket-split-off-spec =

@@ -19,7 +19,9 @@ of-ordering-requires : tie.Need-of-ordering-requires
 of-ordering-requires c κs = search needs
 
 returns : tie.Need-returns
-returns c = both-look _ _ _ (c .before .before .before .deque-in .ensures) orderInC _ _ _ _ _ order (c .before .before .deque-in2 .ensures) (c .of-ordering .ensures) (c .before .cmp .ensures)
+returns c =
+    both-look _ _ _ (c .before .before .before .deque-in .ensures) orderInC _ _ _ _ _ order
+    (c .before .before .deque-in2 .ensures) (c .of-ordering .ensures) (c .before .cmp .ensures)
 
 pub scorebucket-cmp-spec : {M : Type 1} → statement M
 scorebucket-cmp-spec =

@@ -16,7 +16,9 @@ of-truth-requires : tie.Need-of-truth-requires
 of-truth-requires c κs = search needs
 
 returns : tie.Need-returns
-returns c = looks _ _ _ (c .before .before .deque-in .ensures) truthInC lookAt _ _ _ (c .of-truth .ensures) (c .before .contains .ensures)
+returns c =
+    looks _ _ _ (c .before .before .deque-in .ensures) truthInC lookAt _ _ _ (c .of-truth .ensures)
+    (c .before .contains .ensures)
 
 pub scorebucket-contains-spec : {M : Type 1} → statement M
 scorebucket-contains-spec = tie.close (tie.spec deque-in-requires contains-requires of-truth-requires returns)

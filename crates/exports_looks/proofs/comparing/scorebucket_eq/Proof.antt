@@ -19,7 +19,9 @@ of-truth-requires : tie.Need-of-truth-requires
 of-truth-requires c κs = search needs
 
 returns : tie.Need-returns
-returns c = both-look _ _ _ (c .before .before .before .deque-in .ensures) truthInC _ _ _ _ _ same (c .before .before .deque-in2 .ensures) (c .of-truth .ensures) (c .before .eq .ensures)
+returns c =
+    both-look _ _ _ (c .before .before .before .deque-in .ensures) truthInC _ _ _ _ _ same
+    (c .before .before .deque-in2 .ensures) (c .of-truth .ensures) (c .before .eq .ensures)
 
 pub scorebucket-eq-spec : {M : Type 1} → statement M
 scorebucket-eq-spec =

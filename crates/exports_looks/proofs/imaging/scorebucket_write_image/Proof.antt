@@ -17,7 +17,9 @@ same-length : tie.Need-same-length
 same-length c = search needs
 
 returns : tie.Need-returns
-returns c = writes _ _ _ (c .before .before .before .before .before .deque-in .ensures) _ _ _ _ (c .of-written .ensures) (c .before .before .before .write-image .ensures)
+returns c =
+    writes _ _ _ (c .before .before .before .before .before .deque-in .ensures) _ _ _ _ (c .of-written .ensures)
+    (c .before .before .before .write-image .ensures)
 
 pub scorebucket-write-image-spec : {M : Type 1} → statement M
 scorebucket-write-image-spec =

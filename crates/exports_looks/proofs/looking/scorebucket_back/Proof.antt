@@ -16,7 +16,9 @@ of-found-requires : tie.Need-of-found-requires
 of-found-requires c κs = search needs
 
 returns : tie.Need-returns
-returns c = looks _ _ _ (c .before .before .deque-in .ensures) foundInC lookAt _ _ _ (c .of-found .ensures) (c .before .back .ensures)
+returns c =
+    looks _ _ _ (c .before .before .deque-in .ensures) foundInC lookAt _ _ _ (c .of-found .ensures)
+    (c .before .back .ensures)
 
 pub scorebucket-back-spec : {M : Type 1} → statement M
 scorebucket-back-spec = tie.close (tie.spec deque-in-requires back-requires of-found-requires returns)

@@ -16,7 +16,9 @@ of-found-requires : tie.Need-of-found-requires
 of-found-requires c κs = search needs
 
 returns : tie.Need-returns
-returns c = looks _ _ _ (c .before .before .deque-in .ensures) foundInC lookAt _ _ _ (c .of-found .ensures) (c .before .front .ensures)
+returns c =
+    looks _ _ _ (c .before .before .deque-in .ensures) foundInC lookAt _ _ _ (c .of-found .ensures)
+    (c .before .front .ensures)
 
 pub scorebucket-front-spec : {M : Type 1} → statement M
 scorebucket-front-spec = tie.close (tie.spec deque-in-requires front-requires of-found-requires returns)

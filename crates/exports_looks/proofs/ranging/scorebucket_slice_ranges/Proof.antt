@@ -14,7 +14,9 @@ ranged-requires : tie.Need-ranged-requires
 ranged-requires c κs = search needs
 
 returns : tie.Need-returns
-returns c = ranges _ _ _ (c .before .before .before .deque-in .ensures) _ _ _ _ _ (c .ranged .ensures) (c .before .slice-ranges .ensures)
+returns c =
+    ranges _ _ _ (c .before .before .before .deque-in .ensures) _ _ _ _ _ (c .ranged .ensures)
+    (c .before .slice-ranges .ensures)
 
 pub scorebucket-slice-ranges-spec : {M : Type 1} → statement M
 scorebucket-slice-ranges-spec = tie.close (tie.spec deque-in-requires slice-ranges-requires ranged-requires returns)

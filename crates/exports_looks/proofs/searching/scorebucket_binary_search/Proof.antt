@@ -16,7 +16,9 @@ of-searched-requires : tie.Need-of-searched-requires
 of-searched-requires c κs = search needs
 
 returns : tie.Need-returns
-returns c = looks _ _ _ (c .before .before .deque-in .ensures) spotInC searchFor _ _ _ (c .of-searched .ensures) (c .before .binary-search .ensures)
+returns c =
+    looks _ _ _ (c .before .before .deque-in .ensures) spotInC searchFor _ _ _ (c .of-searched .ensures)
+    (c .before .binary-search .ensures)
 
 pub scorebucket-binary-search-spec : {M : Type 1} → statement M
 scorebucket-binary-search-spec =

@@ -23,7 +23,11 @@ of-point-requires : tie.Need-of-point-requires
 of-point-requires c κs = search needs
 
 returns : tie.Need-returns
-returns c = by-point _ _ _ _ (c .before .before .before .before .before .test-of-kind .ensures) _ _ (c .before .before .before .test .given .1) (looks _ _ _ (c .before .before .before .before .before .before .deque-in .ensures) countInC partitionBy _ _ _ (c .of-point .ensures) (c .before .partition-point .ensures))
+returns c =
+    by-point _ _ _ _ (c .before .before .before .before .before .test-of-kind .ensures) _ _
+    (c .before .before .before .test .given .1)
+    (looks _ _ _ (c .before .before .before .before .before .before .deque-in .ensures) countInC partitionBy _ _ _
+    (c .of-point .ensures) (c .before .partition-point .ensures))
 
 enum-told : tie.Need-enum-told
 enum-told c = search needs
@@ -32,7 +36,10 @@ no-such-point-requires : tie.Need-no-such-point-requires
 no-such-point-requires c κs = search needs
 
 returns-2 : tie.Need-returns-2
-returns-2 c = no-point _ _ _ _ (c .before .before .before .test-of-kind .ensures) _ _ (c .before .before .before .before .deque-in .ensures) (c .before .enum-told .given .1) (c .no-such-point .ensures)
+returns-2 c =
+    no-point _ _ _ _ (c .before .before .before .test-of-kind .ensures) _ _
+    (c .before .before .before .before .deque-in .ensures) (c .before .enum-told .given .1)
+    (c .no-such-point .ensures)
 
 pub scorebucket-partition-point-spec : {M : Type 1} → statement M
 scorebucket-partition-point-spec =

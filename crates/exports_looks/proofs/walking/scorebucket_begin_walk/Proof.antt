@@ -16,7 +16,9 @@ begun-requires : tie.Need-begun-requires
 begun-requires c κs = search needs
 
 returns : tie.Need-returns
-returns c = crosses (begunInC _) (beginWalk _) _ _ _ _ (c .before .before .before .deque-in .ensures) (c .begun .ensures) (c .before .begin-walk .ensures)
+returns c =
+    crosses (begunInC _) (beginWalk _) _ _ _ _ (c .before .before .before .deque-in .ensures) (c .begun .ensures)
+    (c .before .begin-walk .ensures)
 
 pub scorebucket-begin-walk-spec : {M : Type 1} → statement M
 scorebucket-begin-walk-spec =

@@ -16,7 +16,9 @@ stepped-requires : tie.Need-stepped-requires
 stepped-requires c κs = search needs
 
 returns : tie.Need-returns
-returns c = crosses (stepInC _) (nextStep _) _ _ _ _ (c .before .before .before .walk-in .ensures) (c .stepped .ensures) (c .before .walk-next .ensures)
+returns c =
+    crosses (stepInC _) (nextStep _) _ _ _ _ (c .before .before .before .walk-in .ensures) (c .stepped .ensures)
+    (c .before .walk-next .ensures)
 
 pub scorebucket-walk-next-spec : {M : Type 1} → statement M
 scorebucket-walk-next-spec =

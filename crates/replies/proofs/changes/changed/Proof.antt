@@ -25,10 +25,14 @@ refuses-requires c κs = search needs
 
 returns : tie.Need-returns
 unfolding unless
-returns c = arm-two (answerInC _) ofChange _ _ _ _ _ _ (c .done .ensures) (c .before .store-deque .ensures) refl (c .before .before .before .before .change .given .1)
+returns c =
+    arm-two (answerInC _) ofChange _ _ _ _ _ _ (c .done .ensures) (c .before .store-deque .ensures) refl
+    (c .before .before .before .before .change .given .1)
 
 returns-2 : tie.Need-returns-2
-returns-2 c = arm-two (answerInC _) ofChange _ _ _ _ _ _ (c .refuses .ensures) refl (stays _ _ _ _) (c .before .before .change2 .given .1)
+returns-2 c =
+    arm-two (answerInC _) ofChange _ _ _ _ _ _ (c .refuses .ensures) refl (stays _ _ _ _)
+    (c .before .before .change2 .given .1)
 
 pub changed-spec : {M : Type 1} → statement M
 changed-spec =

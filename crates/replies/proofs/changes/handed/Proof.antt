@@ -34,14 +34,20 @@ refuses-requires c κs = search needs
 
 returns : tie.Need-returns
 unfolding unless
-returns c = arm-two (answerInC _) ofHanded _ _ _ _ _ _ (c .hands .ensures) (c .before .store-deque .ensures) refl (c .before .before .before .before .handed .given .1)
+returns c =
+    arm-two (answerInC _) ofHanded _ _ _ _ _ _ (c .hands .ensures) (c .before .store-deque .ensures) refl
+    (c .before .before .before .before .handed .given .1)
 
 returns-2 : tie.Need-returns-2
 unfolding unless
-returns-2 c = arm-two (answerInC _) ofHanded _ _ _ _ _ _ (c .done .ensures) (c .before .store-deque2 .ensures) refl (c .before .before .before .before .handed2 .given .1)
+returns-2 c =
+    arm-two (answerInC _) ofHanded _ _ _ _ _ _ (c .done .ensures) (c .before .store-deque2 .ensures) refl
+    (c .before .before .before .before .handed2 .given .1)
 
 returns-3 : tie.Need-returns-3
-returns-3 c = arm-two (answerInC _) ofHanded _ _ _ _ _ _ (c .refuses .ensures) refl (stays _ _ _ _) (c .before .before .handed3 .given .1)
+returns-3 c =
+    arm-two (answerInC _) ofHanded _ _ _ _ _ _ (c .refuses .ensures) refl (stays _ _ _ _)
+    (c .before .before .handed3 .given .1)
 
 pub handed-spec : {M : Type 1} → statement M
 handed-spec =

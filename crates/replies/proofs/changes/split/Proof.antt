@@ -28,10 +28,15 @@ refuses-requires c κs = search needs
 
 returns : tie.Need-returns
 unfolding unless
-returns c = arm-three (pairingInC _ _) ofSplit _ _ _ _ _ _ _ _ (c .done .ensures) (c .before .before .before .store-deque .ensures) (c .before .store-deque2 .ensures) refl (c .before .before .before .before .before .before .split .given .1)
+returns c =
+    arm-three (pairingInC _ _) ofSplit _ _ _ _ _ _ _ _ (c .done .ensures)
+    (c .before .before .before .store-deque .ensures) (c .before .store-deque2 .ensures) refl
+    (c .before .before .before .before .before .before .split .given .1)
 
 returns-2 : tie.Need-returns-2
-returns-2 c = arm-three (pairingInC _ _) ofSplit _ _ _ _ _ _ _ _ (c .refuses .ensures) refl refl (stay _ _ _ _ _ _) (c .before .before .split2 .given .1)
+returns-2 c =
+    arm-three (pairingInC _ _) ofSplit _ _ _ _ _ _ _ _ (c .refuses .ensures) refl refl (stay _ _ _ _ _ _)
+    (c .before .before .split2 .given .1)
 
 pub split-spec : {M : Type 1} → statement M
 split-spec =

@@ -36,7 +36,8 @@ unfolding testIn whether testOf
 returns-4 c = by-kind _ (c .match .keys4)
 
 returns-5 : tie.Need-returns-5
-returns-5 c = no-other _ _ (c .match .rest .0 .0 .0 .1) (c .match .rest .0 .0 .1) (c .match .rest .0 .1) (c .match .rest .1)
+returns-5 c =
+    no-other _ _ (c .match .rest .0 .0 .0 .1) (c .match .rest .0 .0 .1) (c .match .rest .0 .1) (c .match .rest .1)
 
 pub test-of-kind-spec : {M : Type 1} → statement M
 test-of-kind-spec = tie.close (tie.spec returns returns-2 returns-3 returns-4 returns-5)

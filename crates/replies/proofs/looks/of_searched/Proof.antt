@@ -26,7 +26,8 @@ returns-2 : tie.Need-returns-2
 returns-2 c = arm spotInC ofSearched _ _ (c .before .searched2 .given .1)
 
 returns-3 : tie.Need-returns-3
-returns-3 c = arm-refused spotInC ofSearched _ _ _ _ _ (c .number-of .ensures) refl (c .before .before .searched3 .given .1)
+returns-3 c =
+    arm-refused spotInC ofSearched _ _ _ _ _ (c .number-of .ensures) refl (c .before .before .searched3 .given .1)
 
 pub of-searched-spec : {M : Type 1} → statement M
 of-searched-spec =

@@ -34,14 +34,20 @@ refuses-requires c κs = search needs
 
 returns : tie.Need-returns
 unfolding unless
-returns c = arm-two (answerInC _) ofDrawn _ _ _ _ _ _ (c .hands .ensures) (c .before .store-drain .ensures) refl (c .before .before .before .before .draw .given .1)
+returns c =
+    arm-two (answerInC _) ofDrawn _ _ _ _ _ _ (c .hands .ensures) (c .before .store-drain .ensures) refl
+    (c .before .before .before .before .draw .given .1)
 
 returns-2 : tie.Need-returns-2
 unfolding unless
-returns-2 c = arm-two (answerInC _) ofDrawn _ _ _ _ _ _ (c .done .ensures) (c .before .store-drain2 .ensures) refl (c .before .before .before .before .draw2 .given .1)
+returns-2 c =
+    arm-two (answerInC _) ofDrawn _ _ _ _ _ _ (c .done .ensures) (c .before .store-drain2 .ensures) refl
+    (c .before .before .before .before .draw2 .given .1)
 
 returns-3 : tie.Need-returns-3
-returns-3 c = arm-two (answerInC _) ofDrawn _ _ _ _ _ _ (c .refuses .ensures) refl (stays _ _ _ _) (c .before .before .draw3 .given .1)
+returns-3 c =
+    arm-two (answerInC _) ofDrawn _ _ _ _ _ _ (c .refuses .ensures) refl (stays _ _ _ _)
+    (c .before .before .draw3 .given .1)
 
 pub drawn-spec : {M : Type 1} → statement M
 drawn-spec =

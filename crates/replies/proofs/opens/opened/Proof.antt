@@ -25,10 +25,14 @@ refuses-requires c κs = search needs
 
 returns : tie.Need-returns
 unfolding unless
-returns c = arm-two (answerInC _) ofOpened _ _ _ _ _ _ (c .done .ensures) (c .before .store-drain .ensures) refl (c .before .before .before .before .opened .given .1)
+returns c =
+    arm-two (answerInC _) ofOpened _ _ _ _ _ _ (c .done .ensures) (c .before .store-drain .ensures) refl
+    (c .before .before .before .before .opened .given .1)
 
 returns-2 : tie.Need-returns-2
-returns-2 c = arm-two (answerInC _) ofOpened _ _ _ _ _ _ (c .refuses .ensures) refl (stays _ _ _ _) (c .before .before .opened2 .given .1)
+returns-2 c =
+    arm-two (answerInC _) ofOpened _ _ _ _ _ _ (c .refuses .ensures) refl (stays _ _ _ _)
+    (c .before .before .opened2 .given .1)
 
 pub opened-spec : {M : Type 1} → statement M
 opened-spec =

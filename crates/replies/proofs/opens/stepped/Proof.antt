@@ -28,14 +28,20 @@ number-of-requires c κs = search needs
 
 returns : tie.Need-returns
 unfolding unless
-returns c = arm-two (stepInC _) ofStepped _ _ _ _ _ _ refl (c .store-walk .ensures) refl (c .before .before .before .stepped .given .1)
+returns c =
+    arm-two (stepInC _) ofStepped _ _ _ _ _ _ refl (c .store-walk .ensures) refl
+    (c .before .before .before .stepped .given .1)
 
 returns-2 : tie.Need-returns-2
 unfolding unless
-returns-2 c = arm-two (stepInC _) ofStepped _ _ _ _ _ _ refl (c .store-walk2 .ensures) refl (c .before .before .before .stepped2 .given .1)
+returns-2 c =
+    arm-two (stepInC _) ofStepped _ _ _ _ _ _ refl (c .store-walk2 .ensures) refl
+    (c .before .before .before .stepped2 .given .1)
 
 returns-3 : tie.Need-returns-3
-returns-3 c = arm-two (stepInC _) ofStepped _ _ _ _ _ _ (ap (λ n. (n, (0, 0))) (c .number-of .ensures)) refl (stays _ _ _ _) (c .before .before .stepped3 .given .1)
+returns-3 c =
+    arm-two (stepInC _) ofStepped _ _ _ _ _ _ (ap (λ n. (n, (0, 0))) (c .number-of .ensures)) refl (stays _ _ _ _)
+    (c .before .before .stepped3 .given .1)
 
 pub stepped-spec : {M : Type 1} → statement M
 stepped-spec =
