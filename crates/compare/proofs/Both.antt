@@ -19,9 +19,9 @@ use Rattle.rules.specs.Looks.{refuses, lookAtBoth, sees, same, alike, order, le
 use Rattle.rules.specs.Records.{Rec, held}
 use Rattle.rules.specs.Refusals.{onQueue}
 use Rattle.runs.proofs.Asks.{asks-refused, asks-seen}
-use Rattle.queue.specs.declared.Refusal.{Refusal}
-use Rattle.queue.specs.declared.Checked.{Checked}
-use Rattle.queue.specs.declared.Checked.the-variants.{Refused as Failed}
+use Rattle.queue.specs.declared.refusals.Refusal.{Refusal}
+use Rattle.queue.specs.declared.refusals.Checked.{Checked}
+use Rattle.queue.specs.declared.refusals.Checked.the-variants.{Refused as Failed}
 
 -- a queue that nothing was refused of passes its own tests
 pub cleared : (c : ℕ) (r : Rec) (k : ℕ) → onQueue c r k ≡ 0 → onQueue c r 0 ≡ 0

@@ -1,31 +1,17 @@
 // What speaks of the lists only: contains, equality and lexicographic order.
 use queue::Checked;
 use queue::Deque;
-use queue::Refusal;
-ghost use lib.ListN.{length, getD};
+use queue::Ordering;
+use queue::Truth;
+ghost use lib.ListN.{length};
 ghost use mathlib.Core.List.{_++_};
 ghost use mathlib.Core.Path.{_≡_};
-ghost use Prim.Native.Nat.{_<_};
 ghost use Rattle.rules.specs.Looks.{lookAt, lookAtBoth, has, same, order};
 ghost use Rattle.rules.specs.Records.{held};
 ghost use Rattle.rules.specs.Refusals.{onQueue};
 ghost use Rattle.queue.specs.Answers.{recOf, numberIn};
-ghost use Rattle.compare.specs.Answers.{ofTruth, ofOrdering};
+ghost use Rattle.queue.specs.Looks.{ofTruth, ofOrdering};
 ghost use Rattle.compare.specs.Common.{commonLength};
-
-// The answer to a yes-or-no question.
-pub enum Truth {
-    Is(bool),
-    Refused(Refusal),
-}
-
-// How two lists stand to each other.
-pub enum Ordering {
-    Less,
-    Equal,
-    Greater,
-    Refused(Refusal),
-}
 
 // Whether x stands in one of the two runs: the first hit ends the walk over both at once.
 fn stands_in<'a>(front: &'a [u32], back: &'a [u32], x: u32) -> bool
@@ -64,16 +50,6 @@ pub fn contains(slots: &[u32], q: Deque, x: u32) -> Truth
     Truth::Is(hit)
 }
 
-// The element at position i, which there is.
-fn element(slots: &[u32], q: Deque, i: usize) -> u32
-    requires { ⌜ (onQueue (length (now slots)) (recOf q) 0 ≡ 0) × (i < q .len) ⌝ }
-    ensures { λ r. ⌜ r ≡ getD (held (now (slots .entry)) (recOf q)) i 0 ⌝ }
-{
-    let at = places::wrap_add(slots.len(), q.head, i);
-    let p = at.as_index();
-    slots[p]
-}
-
 // How many elements, from the first on, the two queues have in common.
 fn common_length(slots: &[u32], q: Deque, other_slots: &[u32], other: Deque) -> usize
     requires { ⌜ (onQueue (length (now slots)) (recOf q) 0 ≡ 0) × (onQueue (length (now «other_slots»)) (recOf other) 0 ≡ 0) ⌝ }
@@ -86,8 +62,8 @@ fn common_length(slots: &[u32], q: Deque, other_slots: &[u32], other: Deque) -> 
         if i >= other_len {
             return i;
         }
-        let v = element(slots, q, i);
-        let w = element(other_slots, other, i);
+        let v = elements::element(slots, q, i);
+        let w = elements::element(other_slots, other, i);
         if v != w {
             return i;
         }
@@ -141,8 +117,8 @@ pub fn cmp(slots: &[u32], q: Deque, other_slots: &[u32], other: Deque) -> Orderi
     if n == other_len {
         return Ordering::Greater;
     }
-    let v = element(slots, q, n);
-    let w = element(other_slots, other, n);
+    let v = elements::element(slots, q, n);
+    let w = elements::element(other_slots, other, n);
     if v < w {
         return Ordering::Less;
     }

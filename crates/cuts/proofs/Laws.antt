@@ -7,18 +7,18 @@ use native.Mathlib.Omega.{arith}
 use borrow.Author.Tests.{le-leb, lt-leb}
 use lib.ListN.{length}
 use lib.Seq.{take-all}
-use Rattle.queue.proofs.Checks.{fine}
+use Rattle.queue.proofs.Checks.{fine-change}
 use Rattle.rules.proofs.Slots.{length-listOf, listOf-take, lay-own, listOf-drop, lay-none}
 use Rattle.rules.proofs.Told.{accepts-same, accepts}
 use Rattle.rules.specs.Ends.{truncate, truncateFront, clear}
 use Rattle.rules.specs.Outcome.{shut, told, doRule}
 use Rattle.rules.specs.Places.{place}
 use Rattle.rules.specs.Records.{Rec, held, stepped}
-use Rattle.rules.specs.Refusals.{onQueue}
+use Rattle.rules.specs.Refusals.{onChange}
 use Rattle.rules.specs.Slots.{listOf, lay}
 use Rattle.rules.specs.Tests.{whether}
 
-module _ (b : List ℕ) (r : Rec) (first : onQueue (length b) r 0 ≡ 0) where
+module _ (b : List ℕ) (r : Rec) (first : onChange (length b) r 0 ≡ 0) where
   -- as many as there are, or more
   pub all-kept : (k : ℕ) → r .len ≤ k → (record { refused = 0; moved = 0; held = shut r; handed = none }, b) ≡ told (doRule b r (truncate k))
   unfolding truncate held
@@ -36,7 +36,7 @@ module _ (b : List ℕ) (r : Rec) (first : onQueue (length b) r 0 ≡ 0) where
   pub back-cut : (k : ℕ) (r′ : Rec) → k < r .len → r′ ≡ stepped r (r .head) k → (record { refused = 0; moved = 0; held = shut r′; handed = none }, b) ≡ told (doRule b r (truncate k))
   unfolding truncate held
   back-cut k r′ lt made =
-      let g = fine b r first .good in
+      let g = fine-change b r first .good in
       let h = r .head in
       accepts b r (truncate k) first refl 0 h k r′ none b made refl (omega arith) refl refl
       (sym (ap (lay b h) (listOf-take b h (omega arith) k (r .len) (omega arith) (g .fits)) ∙ lay-own b h k))
@@ -46,7 +46,7 @@ module _ (b : List ℕ) (r : Rec) (first : onQueue (length b) r 0 ≡ 0) where
       → (record { refused = 0; moved = 0; held = shut r′; handed = none }, b) ≡ told (doRule b r (truncateFront k))
   unfolding truncateFront held whether
   front-cut k p r′ lt at-p made =
-      let g = fine b r first .good in
+      let g = fine-change b r first .good in
       let h = r .head in
       let n = r .len in
       accepts b r (truncateFront k) first refl 0 p k r′ none b made (at-p ∙ sym (rw (lt-leb n k lt))) (omega arith) refl refl

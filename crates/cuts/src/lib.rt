@@ -12,7 +12,7 @@ ghost use Rattle.queue.specs.Answers.{recOf, ofChange};
 pub fn truncate(slots: &[u32], q: Deque, n: usize) -> Change
     ensures { λ r. ⌜ (ofChange r, now (slots .entry)) ≡ told (doRule (now (slots .entry)) (recOf q) (truncate n)) ⌝ }
 {
-    if let Checked::Refused(refusal) = queue::check(slots.len(), q) {
+    if let Checked::Refused(refusal) = queue::check_change(slots.len(), q) {
         return Change::Refused {
             refusal,
             queue: q,
@@ -33,7 +33,7 @@ pub fn truncate_front(slots: &[u32], q: Deque, n: usize) -> Change
     ensures { λ r. ⌜ (ofChange r, now (slots .entry)) ≡ told (doRule (now (slots .entry)) (recOf q) (truncateFront n)) ⌝ }
 {
     let cap = slots.len();
-    if let Checked::Refused(refusal) = queue::check(cap, q) {
+    if let Checked::Refused(refusal) = queue::check_change(cap, q) {
         return Change::Refused {
             refusal,
             queue: q,
@@ -55,7 +55,7 @@ pub fn truncate_front(slots: &[u32], q: Deque, n: usize) -> Change
 pub fn clear(slots: &[u32], q: Deque) -> Change
     ensures { λ r. ⌜ (ofChange r, now (slots .entry)) ≡ told (doRule (now (slots .entry)) (recOf q) clear) ⌝ }
 {
-    if let Checked::Refused(refusal) = queue::check(slots.len(), q) {
+    if let Checked::Refused(refusal) = queue::check_change(slots.len(), q) {
         return Change::Refused {
             refusal,
             queue: q,

@@ -2,21 +2,21 @@
 use mathlib.Core.List.{List, _++_, []}
 use mathlib.Core.Option.{none}
 use mathlib.Core.Path.{_≡_, refl, _∙_, sym, ap}
-use Prim.Native.Nat.{ℕ, _-_, _+_, min}
+use Prim.Native.Nat.{ℕ, _+_, min}
 use native.Mathlib.Nat.{add-zero}
 use native.Mathlib.Omega.{arith}
 use lib.Dec.{eqb, ltb, ltb→lt, nltb→le}
 use lib.ListN.{length, take, drop}
-use Rattle.drains.specs.Shut.{shutFrom}
 use Rattle.holes.proofs.Closes.{lay-over}
 use Rattle.holes.specs.Holes.{HoleClosed, joinedHead, joinedMoved}
 use Rattle.rules.proofs.Drains.{kept-length}
 use Rattle.rules.proofs.Slots.{length-listOf, lay-none}
 use Rattle.rules.proofs.Tests.{by-test}
-use Rattle.rules.specs.Drains.{Drain, onDrain, closedRec, closedHead, closedMoved, keptList, wholeList, spread}
-use Rattle.rules.specs.Outcome.{shut, told, doClose, closed}
+use Rattle.rules.proofs.Told.{accepted-as}
+use Rattle.rules.specs.Drains.{Drain, onDrain, closedHead, closedMoved, keptList, asOpened, closeDrain}
+use Rattle.rules.specs.Outcome.{shut, told, doClose}
 use Rattle.rules.specs.Places.{place}
-use Rattle.rules.specs.Records.{Rec}
+use Rattle.rules.specs.Records.{Rec, held, stepped}
 use Rattle.rules.specs.Slots.{lay, listOf}
 use Rattle.rules.specs.Tests.{whether, unless}
 
@@ -25,9 +25,10 @@ smaller : (s t : ℕ) → whether (ltb s t) s t ≡ min s t
 smaller s t = by-test (ltb s t) (λ m. m ≡ min s t) (λ lt. omega (arith, ltb→lt s t lt)) (λ ge. omega (arith, nltb→le s t ge))
 
 -- an accepted closing: what is kept is laid from the new head
-pub drain-closed : (b b′ : List ℕ) (d : Drain) (h′ m : ℕ) (r : Rec) → onDrain (length b) d ≡ 0 → HoleClosed b b′ (d .head) (d .start) 0 (d .drained) (d .tail) h′ m → r ≡ shutFrom d h′
+pub drain-closed : (b b′ : List ℕ) (d : Drain) (h′ m : ℕ) (r : Rec) → onDrain (length b) d ≡ 0 → HoleClosed b b′ (d .head) (d .start) 0 (d .drained) (d .tail) h′ m
+    → r ≡ stepped (asOpened d) (whether (eqb (d .start + d .tail) 0) 0 h′) (d .start + d .tail)
     → (record { refused = 0; moved = m; held = shut r; handed = none }, b′) ≡ told (doClose b d)
-unfolding doClose closed closedRec closedHead closedMoved joinedHead joinedMoved shutFrom unless keptList wholeList spread
+unfolding doClose closeDrain closedHead closedMoved joinedHead joinedMoved unless keptList held
 drain-closed b b′ d h′ m r first c made =
     let whole = listOf b (d .head) (d .start + d .drained + d .tail) in
     let kept = take (d .start) whole ++ drop (d .start + d .drained) whole in
@@ -35,4 +36,5 @@ drain-closed b b′ d h′ m r first c made =
     let at-slots : b′ ≡ lay b h′ kept = sym (lay-none b′ _) ∙ (rw (add-zero (d .drained)) at (c .room .laid [] refl)) in
     let at-head : h′ ≡ whether (eqb (d .drained) 0) (d .head) (whether (ltb (d .start) (d .tail)) (place (length b) (d .head) (d .drained)) (d .head)) = rw (add-zero (d .start)) at (c .head) in
     let at-moved : m ≡ closedMoved d = (rw (add-zero (d .start)) at (c .moved)) ∙ ap (whether (eqb (d .drained) 0) 0) (smaller (d .start) (d .tail)) in
-    rw (first, made, at-moved, at-slots ∙ sym (lay-over b h′ _ kept many), at-head)
+    rw first
+    (accepted-as b (asOpened d) (closeDrain d) m _ _ r none b′ made (ap (whether (eqb (d .start + d .tail) 0) 0) at-head) refl at-moved refl (at-slots ∙ sym (lay-over b h′ _ kept many)))

@@ -12,7 +12,7 @@ use Rattle.replies.specs.InC.{Said, said, toldInC}
 use Rattle.replies.specs.Kinds.{ofAsked}
 use Rattle.replies.specs.declared.kinds.Asked.{Asked}
 use Rattle.replies.specs.declared.kinds.Asked.the-variants.{For, Unknown}
-use Rattle.rules.proofs.Refusals.{queue-ok}
+use Rattle.rules.proofs.Refusals.{change-ok}
 use Rattle.rules.proofs.Tests.{unless-stop}
 use Rattle.rules.specs.Conditions.{Test}
 use Rattle.rules.specs.Outcome.{doRule, unchanged}
@@ -22,7 +22,7 @@ use Rattle.exports.specs.Kinds.{refusedKind, doTested}
 
 -- a kind that is unknown is always refused
 kind-refused : (cap : ℕ) (r : Rec) → refusedKind cap r ≢ 0
-kind-refused cap r none-given = let none-left = queue-ok cap r 3 none-given .1 in omega arith
+kind-refused cap r none-given = let none-left = change-ok cap r 3 none-given .1 in omega arith
 
 -- old are the words of the record r
 module _ (b : List ℕ) (r : Rec) (old : List ℕ) (a : Asked) (o : Option Test) (told : ofAsked a ≡ o) where

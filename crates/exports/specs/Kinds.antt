@@ -6,12 +6,12 @@ use lib.ListN.{length}
 use Rattle.rules.specs.Conditions.{Test}
 use Rattle.rules.specs.Outcome.{Outcome, shut, doRule, unchanged}
 use Rattle.rules.specs.Records.{Rec}
-use Rattle.rules.specs.Refusals.{onQueue}
+use Rattle.rules.specs.Refusals.{onChange}
 use Rattle.rules.specs.Rule.{Rule}
 
 -- where there is no such test: 1 and 2 are asked as ever, then it is 3
 abbrev pub refusedKind : ℕ → Rec → ℕ
-refusedKind cap r = onQueue cap r 3
+refusedKind cap r = onChange cap r 3
 
 -- a call by a rule that takes a test
 unfoldable pub doTested : List ℕ → Rec → Option Test → (Test → Rule) → Outcome

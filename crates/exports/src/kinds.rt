@@ -15,7 +15,7 @@ ghost use Rattle.exports.specs.Kinds.{refusedKind};
 pub fn no_such_test(cap: usize, q: Deque) -> Reply
     ensures { λ r. ⌜ ofReply r ≡ said (refusedKind cap (recOf q)) 0 none ⌝ }
 {
-    if let Checked::Refused(refusal) = queue::check(cap, q) {
+    if let Checked::Refused(refusal) = queue::check_change(cap, q) {
         return refuses(refusal, 0);
     }
     refuses(Refusal::Position, 0)

@@ -13,7 +13,7 @@ pub extern "C" fn scorebucket_fresh(slots: &[u32], q: &mut [usize; RECORD]) -> R
     ensures { λ r. ⌜ (ofReply r, now (q .exit), now (slots .entry))
         ≡ makingToldInC (now (q .entry)) (fresh (now (slots .entry))) ⌝ }
 {
-    made(q, queue::fresh(slots))
+    made(q, elements::fresh(slots))
 }
 
 // Reads an image into bare slots, and makes the record of its elements.

@@ -4,7 +4,7 @@ use queue::Deque;
 use queue::Refusal;
 use replies::CountReply;
 use replies::of_point;
-use search::Point;
+use queue::Point;
 ghost use mathlib.Core.Path.{_≡_};
 ghost use Rattle.replies.specs.InC.{countInC};
 ghost use Rattle.replies.specs.Replies.{ofCountReply};

@@ -9,7 +9,7 @@ use lib.ListN.{length, length-reverse, replicate, take, length-replicate}
 use lib.Seq.{take-all}
 use Rattle.extends.proofs.Asks.{More}
 use Rattle.extends.proofs.Behind.{lay-behind, lay-before, lay-first}
-use Rattle.queue.proofs.Checks.{failed-number, fine}
+use Rattle.queue.proofs.Checks.{failed-number, fine-change}
 use Rattle.queue.proofs.Numbers.{some-number}
 use Rattle.queue.specs.Answers.{numberIn, numberOf}
 use Rattle.rules.proofs.Made.{map-made}
@@ -22,18 +22,18 @@ use Rattle.rules.specs.Joins.{extendWith, prepend, extendFront, resize}
 use Rattle.rules.specs.Outcome.{shut, told, doRule, unchanged, refusal}
 use Rattle.rules.specs.Places.{place, stepBack}
 use Rattle.rules.specs.Records.{Rec, held, stepped}
-use Rattle.rules.specs.Refusals.{onQueue, room}
+use Rattle.rules.specs.Refusals.{onChange, room}
 use Rattle.rules.specs.Rule.{Rule, numbers}
 use Rattle.rules.specs.Slots.{lay, listOf}
-use Rattle.queue.specs.declared.Refusal.{Refusal}
-use Rattle.queue.specs.declared.Refusal.the-variants.{Room}
-use Rattle.queue.specs.declared.Checked.{Checked}
-use Rattle.queue.specs.declared.Checked.the-variants.{Refused as Failed}
+use Rattle.queue.specs.declared.refusals.Refusal.{Refusal}
+use Rattle.queue.specs.declared.refusals.Refusal.the-variants.{Room}
+use Rattle.queue.specs.declared.refusals.Checked.{Checked}
+use Rattle.queue.specs.declared.refusals.Checked.the-variants.{Refused as Failed}
 
 -- ---- a lent slice
 
 -- all tests of the call were made at once, and one refused
-module _ (b : List ℕ) (r : Rec) (vs : List ℕ) (t : Checked) (x : Refusal) (asked : numberIn t ≡ onQueue (length b) r (room (length b) (r .len + length vs))) (f : t ≡ Failed x) where
+module _ (b : List ℕ) (r : Rec) (vs : List ℕ) (t : Checked) (x : Refusal) (asked : numberIn t ≡ onChange (length b) r (room (length b) (r .len + length vs))) (f : t ≡ Failed x) where
   refused-by : (R : Rule) → R .own (length b) (r .len) ≡ room (length b) (r .len + length vs)
       → (record { refused = numberOf x; moved = 0; held = shut r; handed = none }, b) ≡ told (doRule b r R)
   unfolding doRule unchanged refusal
@@ -112,7 +112,7 @@ module _ (b : List ℕ) (r : Rec) (vs : List ℕ) (m : More b r (length vs)) whe
 
 -- ---- `resize`
 
-module _ (b : List ℕ) (r : Rec) (first : onQueue (length b) r 0 ≡ 0) (n v : ℕ) where
+module _ (b : List ℕ) (r : Rec) (first : onChange (length b) r 0 ≡ 0) (n v : ℕ) where
   pub resized-full : length b < n → (record { refused = numberOf Room; moved = 0; held = shut r; handed = none }, b) ≡ told (doRule b r (resize n v))
   unfolding resize numberOf
   resized-full lt = own-refused b r (resize n v) 4 (λ e. omega arith) first (no-room _ _ lt)
@@ -121,7 +121,7 @@ module _ (b : List ℕ) (r : Rec) (first : onQueue (length b) r 0 ≡ 0) (n v : 
   pub cut-down : (r′ : Rec) → n ≤ r .len → r′ ≡ stepped r (r .head) n → (record { refused = 0; moved = 0; held = shut r′; handed = none }, b) ≡ told (doRule b r (resize n v))
   unfolding resize held
   cut-down r′ le made =
-      let g = fine b r first .good in
+      let g = fine-change b r first .good in
       let none-added : n - length (listOf b (r .head) (r .len)) ≡ 0 = rw length-listOf (omega arith) in
       accepts b r (resize n v) first (some-room _ _ (omega arith)) 0 (r .head) n r′ none b made refl refl refl refl
       (sym (rw (none-added, append-nil) (lay-first b (r .head) n (r .len) (g .placed) (g .fits) le)))
@@ -131,7 +131,7 @@ module _ (b : List ℕ) (r : Rec) (first : onQueue (length b) r 0 ≡ 0) (n v : 
       → r′ ≡ stepped r (r .head) n → (record { refused = 0; moved = 0; held = shut r′; handed = none }, b′) ≡ told (doRule b r (resize n v))
   unfolding resize held
   filled-up p r′ b′ lt le at-p laid made =
-      let g = fine b r first .good in
+      let g = fine-change b r first .good in
       let all : take n (listOf b (r .head) (r .len)) ≡ listOf b (r .head) (r .len) = take-all n _ (rw length-listOf (omega arith)) in
       accepts b r (resize n v) first (some-room _ _ le) 0 (r .head) n r′ none b′ made refl refl refl refl
       (laid ∙ rw (at-p, all, length-listOf) (lay-behind b (r .head) (r .len) (replicate (n - r .len) v) (omega arith) (rw length-replicate (omega arith))))

@@ -9,15 +9,15 @@ ghost use Rattle.rules.specs.Joins.{extendWith, prepend, extendFront, resize};
 ghost use Rattle.rules.specs.Outcome.{told, doRule};
 ghost use Rattle.rules.specs.Places.{stepBack};
 ghost use Rattle.rules.specs.Records.{stepped};
-ghost use Rattle.rules.specs.Refusals.{onQueue, room};
+ghost use Rattle.rules.specs.Refusals.{onChange, room};
 ghost use Rattle.queue.specs.Answers.{recOf, numberIn, ofChange};
 
 // The tests of a call that adds `n` elements, in their order. A lent slice may be of any length, so its own is held to a difference: no sum can pass
 // the largest number.
 fn check_more(cap: usize, q: Deque, n: usize) -> Checked
-    ensures { λ r. ⌜ numberIn r ≡ onQueue cap (recOf q) (room cap (q .len + n)) ⌝ }
+    ensures { λ r. ⌜ numberIn r ≡ onChange cap (recOf q) (room cap (q .len + n)) ⌝ }
 {
-    if let Checked::Refused(refusal) = queue::check(cap, q) {
+    if let Checked::Refused(refusal) = queue::check_change(cap, q) {
         return Checked::Refused(refusal);
     }
     if n > cap - q.len {
@@ -108,7 +108,7 @@ pub fn resize(slots: &mut [u32], q: Deque, n: usize, v: u32) -> Change
     ensures { λ r. ⌜ (ofChange r, now (slots .exit)) ≡ told (doRule (now (slots .entry)) (recOf q) (resize n v)) ⌝ }
 {
     let cap = slots.len();
-    if let Checked::Refused(refusal) = queue::check(cap, q) {
+    if let Checked::Refused(refusal) = queue::check_change(cap, q) {
         return Change::Refused {
             refusal,
             queue: q,

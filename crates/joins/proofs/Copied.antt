@@ -5,25 +5,25 @@ use Prim.Native.Nat.{ℕ, _+_, _≤_, _-_, _<_}
 use native.Mathlib.Omega.{arith}
 use lib.ListN.{length, take, drop, length-take, length-drop}
 use Rattle.rules.proofs.Places.{place-low}
-use Rattle.rules.proofs.Refusals.{queue-ok}
+use Rattle.rules.proofs.Refusals.{change-ok}
 use Rattle.rules.proofs.Ring.{write-append, read-straight}
 use Rattle.rules.proofs.Slots.{length-lay, listOf-drop}
 use Rattle.rules.specs.Places.{place}
 use Rattle.rules.specs.Records.{Rec, held}
-use Rattle.rules.specs.Refusals.{onQueue, mostSlots}
+use Rattle.rules.specs.Refusals.{onChange, mostSlots}
 use Rattle.rules.specs.Slots.{lay, listOf}
 use Rattle.runs.proofs.Whole.{read-round}
 
 -- The elements of a good queue from position s on, of which there are some.
-module _ (b : List ℕ) (r : Rec) (s : ℕ) (good : onQueue (length b) r 0 ≡ 0) (within : s < r .len) where
+module _ (b : List ℕ) (r : Rec) (s : ℕ) (good : onChange (length b) r 0 ≡ 0) (within : s < r .len) where
   -- their first place is a slot's
   pub first-in-slots : place (length b) (r .head) s < length b
-  first-in-slots = let g = queue-ok (length b) r 0 good .0 in place-low (length b) (r .head) (omega arith) s (omega arith)
+  first-in-slots = let g = change-ok (length b) r 0 good .0 in place-low (length b) (r .head) (omega arith) s (omega arith)
 
   -- they are those that stand from there on
   pub later-held : listOf b (place (length b) (r .head) s) (r .len - s) ≡ drop s (held b r)
   unfolding held
-  later-held = let g = queue-ok (length b) r 0 good .0 in sym (listOf-drop b (r .head) (omega arith) s (r .len) (omega arith) (omega arith))
+  later-held = let g = change-ok (length b) r 0 good .0 in sym (listOf-drop b (r .head) (omega arith) s (r .len) (omega arith) (omega arith))
 
   -- and the slots from there on, where they end before the slots do
   pub later-straight : (w e : ℕ) → w ≡ place (length b) (r .head) s → r .len - s ≤ length b - w → e ≡ w + (r .len - s) → take (e - w) (drop w b) ≡ drop s (held b r)

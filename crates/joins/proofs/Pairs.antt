@@ -3,25 +3,31 @@ use mathlib.Core.List.{List, _++_, append-nil}
 use mathlib.Core.Logic.{_≢_}
 use mathlib.Core.Option.{none, some}
 use mathlib.Core.Path.{_≡_, sym, _∙_, ap, refl}
-use Prim.Native.Nat.{ℕ, _+_, _-_, _≤_}
+use Prim.Native.Nat.{ℕ, _+_, _-_, _≤_, min}
 use native.Mathlib.Omega.{arith}
-use lib.ListN.{length, drop, drop-of-length-le}
+use lib.ListN.{length, drop, drop-of-length-le, length-drop, take}
 use Rattle.extends.proofs.Asks.{appends}
 use Rattle.extends.proofs.Behind.{lay-behind}
 use Rattle.queue.proofs.Checks.{failed-number}
 use Rattle.queue.proofs.Numbers.{some-number}
 use Rattle.queue.specs.Answers.{numberIn, numberOf}
 use Rattle.rules.proofs.Held.{stepped-same, length-held}
-use Rattle.rules.proofs.Slots.{listOf-none, lay-own, length-listOf, lay-none}
+use Rattle.rules.proofs.Made.{map-made}
+use Rattle.rules.proofs.Pairs.{split-ok}
+use Rattle.rules.proofs.Slots.{listOf-none, lay-own, length-listOf, lay-none, listOf-take-good}
 use Rattle.rules.proofs.Tests.{unless-stop}
-use Rattle.rules.specs.Pairs.{onAppending, toldPairing, doAppend, appended, appendedRec, emptied, onSplitting, doSplit, splitted, splitRec, targetRec}
+use Rattle.rules.specs.Ends.{truncate, clear}
+use Rattle.rules.specs.Joins.{extendWith}
+use Rattle.rules.specs.Makes.{madeWith}
+use Rattle.rules.specs.Outcome.{recAfter, accepted}
+use Rattle.rules.specs.Pairs.{onAppending, toldPairing, doAppend, appended, onSplitting, doSplit, splitted, crossing}
 use Rattle.rules.specs.Places.{place}
 use Rattle.rules.specs.Records.{Rec, stepped, held, newRec}
 use Rattle.rules.specs.Slots.{lay, listOf}
 use Rattle.rules.specs.Tests.{unless}
-use Rattle.queue.specs.declared.Refusal.{Refusal}
-use Rattle.queue.specs.declared.Checked.{Checked}
-use Rattle.queue.specs.declared.Checked.the-variants.{Refused as Failed}
+use Rattle.queue.specs.declared.refusals.Refusal.{Refusal}
+use Rattle.queue.specs.declared.refusals.Checked.{Checked}
+use Rattle.queue.specs.declared.refusals.Checked.the-variants.{Refused as Failed}
 
 -- ---- `append`
 
@@ -36,8 +42,8 @@ module _ (b : List ℕ) (r : Rec) (b′ : List ℕ) (r′ : Rec) where
     -- accepted: our slots, our record and the other's as the rule gives them
     appends-as : (m : ℕ) (q : Rec) (c : List ℕ) → m ≡ r′ .len → q ≡ stepped r (r .head) (r .len + r′ .len) → c ≡ lay b (r .head) (held b r ++ held b′ r′)
         → (record { refused = 0; moved = m; rec = q; other = some o }, c, b′) ≡ toldPairing (doAppend b r b′ r′)
-    unfolding doAppend appended appendedRec emptied unless stepped
-    appends-as m q c at-moved made at-slots = rw (none-asked, at-slots, made, made-other, at-first, at-moved)
+    unfolding doAppend appended crossing accepted recAfter extendWith clear unless stepped
+    appends-as m q c at-moved made at-slots = rw (none-asked, map-made, length-held, lay-none, at-slots, made, made-other, at-first, at-moved)
 
     -- there was nothing to copy
     pub append-none : r′ .len ≡ 0 → (record { refused = 0; moved = 0; rec = r; other = some o }, b, b′) ≡ toldPairing (doAppend b r b′ r′)
@@ -72,8 +78,14 @@ module _ (b : List ℕ) (r : Rec) (b′ : List ℕ) (s : ℕ) where
     -- accepted: the target's slots as the rule gives them
     splits-as : (m : ℕ) (c : List ℕ) → m ≡ r .len - s → c ≡ lay b′ 0 (drop s (held b r))
         → (record { refused = 0; moved = m; rec = q; other = some o }, b, c) ≡ toldPairing (doSplit b r b′ s)
-    unfolding doSplit splitted splitRec targetRec unless stepped
-    splits-as m c at-moved at-slots = rw (none-asked, at-slots, made, made-other, at-moved)
+    unfolding doSplit splitted crossing accepted recAfter truncate madeWith unless stepped held
+    splits-as m c at-moved at-slots =
+        let p = split-ok (length b) r (length b′) s none-asked in
+        let g = p .0 in
+        let first : min s (r .len) ≡ s = omega (arith, p .1) in
+        let same : lay b (r .head) (take s (listOf b (r .head) (r .len))) ≡ b =
+        ap (lay b (r .head)) (listOf-take-good b (r .head) (g .placed) s (r .len) (p .1) (g .fits)) ∙ lay-own b (r .head) s in
+        rw (none-asked, same, first, length-drop, length-listOf, at-slots, made, made-other, at-moved)
 
     -- there was nothing to copy
     pub split-none : r .len - s ≡ 0 → (record { refused = 0; moved = 0; rec = q; other = some o }, b, b′) ≡ toldPairing (doSplit b r b′ s)

@@ -1,28 +1,28 @@
 // Another queue's elements behind ours, and our later elements into a bare target.
-use super::Joined;
-use super::Split;
 use places::WrappedIndex;
 use queue::Checked;
 use queue::Deque;
+use queue::Joined;
 use queue::Refusal;
+use queue::Split;
 ghost use mathlib.Core.Path.{_≡_};
 ghost use Prim.Native.Nat.{_-_, _≤_, _<_};
 ghost use lib.ListN.{length, drop};
 ghost use Rattle.rules.specs.Pairs.{onAppending, onSplitting, doAppend, doSplit, toldPairing};
 ghost use Rattle.rules.specs.Records.{held};
-ghost use Rattle.rules.specs.Refusals.{onQueue, mostSlots};
+ghost use Rattle.rules.specs.Refusals.{onChange, mostSlots};
 ghost use Rattle.rules.specs.Slots.{lay, listOf};
 ghost use Rattle.queue.specs.Answers.{recOf, numberIn};
-ghost use Rattle.joins.specs.Answers.{ofJoined, ofSplit};
+ghost use Rattle.queue.specs.Pairs.{ofJoined, ofSplit};
 
 // The tests of `append`, in their order: our queue's, the other's, then whether the other's elements fit behind ours.
 fn check_append(cap: usize, q: Deque, other_cap: usize, other: Deque) -> Checked
     ensures { λ r. ⌜ numberIn r ≡ onAppending cap (recOf q) «other_cap» (recOf other) ⌝ }
 {
-    if let Checked::Refused(refusal) = queue::check(cap, q) {
+    if let Checked::Refused(refusal) = queue::check_change(cap, q) {
         return Checked::Refused(refusal);
     }
-    if let Checked::Refused(refusal) = queue::check(other_cap, other) {
+    if let Checked::Refused(refusal) = queue::check_change(other_cap, other) {
         return Checked::Refused(refusal);
     }
     if other.len > cap - q.len {
@@ -35,7 +35,7 @@ fn check_append(cap: usize, q: Deque, other_cap: usize, other: Deque) -> Checked
 fn check_split(cap: usize, q: Deque, target_cap: usize, at: usize) -> Checked
     ensures { λ r. ⌜ numberIn r ≡ onSplitting cap (recOf q) «target_cap» at ⌝ }
 {
-    if let Checked::Refused(refusal) = queue::check(cap, q) {
+    if let Checked::Refused(refusal) = queue::check_change(cap, q) {
         return Checked::Refused(refusal);
     }
     let most = rules::most_slots();
@@ -73,7 +73,7 @@ fn copy_runs_apart(
 
 // Copies a queue's elements from position `start` on into other slots from `dst` on.
 fn copy_later(slots: &mut [u32], dst: WrappedIndex, from: &[u32], q: Deque, start: usize)
-    requires { ⌜ onQueue (length (now from)) (recOf q) 0 ≡ 0 ⌝ }
+    requires { ⌜ onChange (length (now from)) (recOf q) 0 ≡ 0 ⌝ }
     requires { ⌜ (start < q .len) × (q .len - start ≤ length (now slots)) × (dst .0 < length (now slots)) × (length (now slots) ≤ mostSlots) ⌝ }
     ensures { λ _. ⌜ now (slots .exit) ≡ lay (now (slots .entry)) (dst .0) (drop start (held (now (from .entry)) (recOf q))) ⌝ }
 {

@@ -3,16 +3,17 @@
 use super::numbers::number_of;
 use super::records::RECORD;
 use super::records::store_deque;
-use joins::Joined;
-use joins::Split;
+use elements::Handed;
 use queue::Change;
-use queue::Handed;
+use queue::Joined;
 use queue::Made;
 use queue::Refusal;
+use queue::Split;
 ghost use mathlib.Core.Option.{none, some};
 ghost use mathlib.Core.Path.{_≡_};
-ghost use Rattle.queue.specs.Answers.{numberOf, ofChange, ofHanded, ofMade};
-ghost use Rattle.joins.specs.Answers.{ofJoined, ofSplit};
+ghost use Rattle.queue.specs.Answers.{numberOf, ofChange, ofMade};
+ghost use Rattle.elements.specs.Answers.{ofHanded};
+ghost use Rattle.queue.specs.Pairs.{ofJoined, ofSplit};
 ghost use Rattle.replies.specs.InC.{said, answerInC, makingInC, pairingInC};
 ghost use Rattle.replies.specs.Replies.{ofReply};
 

@@ -7,7 +7,7 @@ use Prim.Native.Nat.{ℕ, suc, _≤_, _-_, _<_, _+_}
 use native.Mathlib.Omega.{arith}
 use lib.ListN.{length, take, drop, drop-of-length-le, length-append}
 use lib.Seq.{take-all}
-use Rattle.queue.proofs.Checks.{fine}
+use Rattle.queue.proofs.Checks.{fine-change}
 use Rattle.retains.proofs.Keeps.{those-split, behind-split, leading-fits}
 use Rattle.retains.specs.Leading.{leading}
 use Rattle.rules.proofs.Count.{length-those}
@@ -20,10 +20,10 @@ use Rattle.rules.specs.Middle.{retain}
 use Rattle.rules.specs.Outcome.{shut, told, doRule}
 use Rattle.rules.specs.Places.{place}
 use Rattle.rules.specs.Records.{Rec, held, stepped}
-use Rattle.rules.specs.Refusals.{onQueue}
+use Rattle.rules.specs.Refusals.{onChange}
 use Rattle.rules.specs.Slots.{listOf, lay}
 
-module _ (b : List ℕ) (r : Rec) (first : onQueue (length b) r 0 ≡ 0) (t : Test) (k : ℕ) (at-k : k ≡ leading (meets t) (listOf b (r .head) (r .len))) where
+module _ (b : List ℕ) (r : Rec) (first : onChange (length b) r 0 ≡ 0) (t : Test) (k : ℕ) (at-k : k ≡ leading (meets t) (listOf b (r .head) (r .len))) where
   l : List ℕ
   l = listOf b (r .head) (r .len)
 
@@ -64,7 +64,7 @@ module _ (b : List ℕ) (r : Rec) (first : onQueue (length b) r 0 ≡ 0) (t : Te
     behind-first : drop (suc k) l ≡ rest
     unfolding l
     behind-first =
-        let g = fine b r first .good in
+        let g = fine-change b r first .good in
         let low : r .head < length b = omega (arith, kept-upto) in
         let one : suc k ≡ k + 1 = omega arith in
         let next : place (length b) (r .head) (k + 1) ≡ place (length b) p 1 =
@@ -81,7 +81,7 @@ module _ (b : List ℕ) (r : Rec) (first : onQueue (length b) r 0 ≡ 0) (t : Te
         → (record { refused = 0; moved = m; held = shut r′; handed = none }, b′) ≡ told (doRule b r (retain t))
     unfolding retain held l
     retained r′ b′ at-m at-b′ made =
-        let g = fine b r first .good in
+        let g = fine-change b r first .good in
         let low : r .head < length b = omega (arith, kept-upto) in
         let kept : those (meets t) l ≡ listOf b (r .head) k ++ those (meets t) rest =
         split ∙ (λ i. listOf-take b (r .head) low k (r .len) kept-upto (g .fits) i ++ those (meets t) (behind-first i)) in

@@ -150,7 +150,7 @@ pub fn retain(slots: &mut [u32], q: Deque, test: Test) -> Change
     ensures { λ r. ⌜ (ofChange r, now (slots .exit)) ≡ told (doRule (now (slots .entry)) (recOf q) (retain (testOf test))) ⌝ }
 {
     let cap = slots.len();
-    if let Checked::Refused(refusal) = queue::check(cap, q) {
+    if let Checked::Refused(refusal) = queue::check_change(cap, q) {
         return Change::Refused {
             refusal,
             queue: q,

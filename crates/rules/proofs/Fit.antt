@@ -1,21 +1,20 @@
 -- What every queue that a sequence of calls leaves is, and what stands in it. Assumes nothing.
 use mathlib.Core.List.{List}
-use mathlib.Core.Path.{_≡_, ap, refl}
+use mathlib.Core.Path.{_≡_}
 use Prim.Native.Nat.{ℕ, _≤_}
 use native.Mathlib.Omega.{arith}
 use lib.ListN.{length}
-use Rattle.rules.proofs.Drains.{GoodDrain, drain-true, open-spread, closed-placed, kept-length}
+use Rattle.rules.proofs.Drains.{GoodDrain, drain-true, closed-placed, kept-length}
 use Rattle.rules.proofs.Held.{length-held, stepped-good, laid}
 use Rattle.rules.proofs.Lawful.{Lawful}
-use Rattle.rules.proofs.Refusals.{Good, record-true, queue-ok}
-use Rattle.rules.proofs.Slots.{length-listOf}
-use Rattle.rules.specs.Drains.{Drain, during, wholeList, spread, opened, fromFront, fromBack, closedRec, keptList}
+use Rattle.rules.proofs.Refusals.{Good, record-true, change-ok}
+use Rattle.rules.specs.Drains.{Drain, during, asOpened, closeDrain}
 use Rattle.rules.specs.Outcome.{Held, shut, drawn, refusal, recAfter}
 use Rattle.rules.specs.Records.{Rec, held, stepped}
-use Rattle.rules.specs.Refusals.{mostSlots, onRange}
+use Rattle.rules.specs.Refusals.{mostSlots}
 use Rattle.rules.specs.Rule.{Rule, after}
 use Rattle.rules.specs.Sequences.{stands}
-use Rattle.rules.specs.Slots.{listOf, lay}
+use Rattle.rules.specs.Slots.{lay}
 use Rattle.rules.specs.Tests.{whether}
 
 -- its record is good; a drain is open only where the slots are not too many
@@ -28,51 +27,37 @@ pub stands-shut : (b : List ℕ) (r : Rec) → Good (length b) r → stands b (s
 unfolding stands whether
 stands-shut b r g = rw (record-true (length b) r g)
 
-pub stands-drawn : (b : List ℕ) (d : Drain) → GoodDrain (length b) d → stands b (drawn d) ≡ during (wholeList b d) d
+pub stands-drawn : (b : List ℕ) (d : Drain) → GoodDrain (length b) d → stands b (drawn d) ≡ during (held b (asOpened d)) d
 unfolding stands whether
 stands-drawn b d g = rw (drain-true (length b) d g)
 
--- ---- the list as the drain was opened: as long as the drain record says, and the same as long as the drain is open
+-- ---- what an accepted call leaves: its record is good, and the list that the rule gives is as long as that says
 
-pub length-whole : (b : List ℕ) (d : Drain) → length (wholeList b d) ≡ spread d
-unfolding wholeList
-length-whole b d = length-listOf b (d .head) (spread d)
+pub record Leaves (b : List ℕ) (r : Rec) (R : Rule) : Type 0 where
+  pub good : Good (length b) (recAfter b r R)
+  pub long : length (after R (held b r)) ≡ recAfter b r R .len
 
-pub open-whole : (b : List ℕ) (r : Rec) (s e : ℕ) → onRange (length b) r s e ≡ 0 → wholeList b (opened r s e) ≡ held b r
-unfolding wholeList opened held
-open-whole b r s e z = ap (λ (k : ℕ). listOf b (r .head) k) (open-spread (length b) r s e z)
+-- so that is the list that the queue then holds
+pub left-held : (b : List ℕ) (r : Rec) (R : Rule) → Leaves b r R → held (lay b (recAfter b r R .head) (after R (held b r))) (recAfter b r R) ≡ after R (held b r)
+left-held b r R L = laid b (recAfter b r R) (after R (held b r)) (L .good) (L .long)
 
-pub front-whole : (b : List ℕ) (d : Drain) → wholeList b (fromFront d) ≡ wholeList b d
-unfolding wholeList spread fromFront
-front-whole b d = refl
-
-pub back-whole : (b : List ℕ) (d : Drain) → wholeList b (fromBack d) ≡ wholeList b d
-unfolding wholeList spread fromBack
-back-whole b d = refl
-
--- ---- the records that calls leave are good, and the lists are those that the rules give
-
-pub op-good : (b : List ℕ) (r : Rec) (R : Rule) → Lawful R → refusal (length b) r R ≡ 0 → Good (length b) (recAfter b r R)
-unfolding refusal recAfter
-op-good b r R L e =
-    let q = queue-ok (length b) r _ e in
-    let n = length-held b r in
-    stepped-good (length b) r _ _ (q .0) (rw n at (L .good (length b) (r .head) (held b r) (q .0 .placed) (rw n (q .0 .fits)) (rw n (q .1))))
-    (rw n at (L .fits (length b) (held b r) (rw n (q .0 .fits)) (rw n (q .1))))
-
-pub op-held : (b : List ℕ) (r : Rec) (R : Rule) → Lawful R → refusal (length b) r R ≡ 0
-    → held (lay b (recAfter b r R .head) (after R (held b r))) (recAfter b r R) ≡ after R (held b r)
+-- a call by a lawful rule
+pub op-leaves : (b : List ℕ) (r : Rec) (R : Rule) → Lawful R → refusal (length b) r R ≡ 0 → Leaves b r R
 unfolding refusal recAfter stepped
-op-held b r R L e =
+op-leaves b r R L e =
+    let q = change-ok (length b) r _ e in
     let n = length-held b r in
-    laid b (recAfter b r R) (after R (held b r)) (op-good b r R L e) (rw n at (L .long (length b) (held b r) (rw n (queue-ok (length b) r _ e .1))))
+    let long : length (held b r) ≤ length b = rw n (q .0 .fits) in
+    let own : R .own (length b) (length (held b r)) ≡ 0 = rw n (q .1) in
+    record {
+      good = stepped-good (length b) r _ _ (q .0) (rw n at (L .good (length b) (r .head) (held b r) (q .0 .placed) long own)) (rw n at (L .fits (length b) (held b r) long own));
+      long = rw n at (L .long (length b) (held b r) own);
+    }
 
-pub close-good : (c : ℕ) (d : Drain) → GoodDrain c d → Good c (closedRec c d)
-unfolding closedRec
-close-good c d g = record { placed = closed-placed c d g; fits = omega (arith, g .fits) }
-
-pub closed-held : (b : List ℕ) (d : Drain) → GoodDrain (length b) d
-    → held (lay b (closedRec (length b) d .head) (keptList (wholeList b d) d)) (closedRec (length b) d) ≡ keptList (wholeList b d) d
-unfolding closedRec
-closed-held b d g =
-    laid b (closedRec (length b) d) (keptList (wholeList b d) d) (close-good (length b) d g) (kept-length (wholeList b d) d (length-whole b d))
+-- the closing of a drain
+pub close-leaves : (b : List ℕ) (d : Drain) → GoodDrain (length b) d → Leaves b (asOpened d) (closeDrain d)
+unfolding recAfter stepped closeDrain
+close-leaves b d g = record {
+  good = stepped-good (length b) (asOpened d) _ _ (g .whole) (closed-placed (length b) d g) (omega (arith, g .whole .fits));
+  long = kept-length (held b (asOpened d)) d (length-held b (asOpened d));
+}

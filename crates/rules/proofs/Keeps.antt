@@ -6,23 +6,23 @@ use native.Mathlib.Omega.{arith}
 use lib.ListN.{length}
 use Rattle.rules.proofs.Calls.{lawful}
 use Rattle.rules.proofs.Count.{tally-nil}
-use Rattle.rules.proofs.Drains.{opened-good, opening-few, open-balance, GoodDrain, front-good, next-balance, idx-in, back-good, next-back-balance, last-in, close-balance}
-use Rattle.rules.proofs.Fit.{Fit, fit-shut, stands-shut, op-good, op-held, fit-drawn, stands-drawn, open-whole, front-whole, length-whole, back-whole, close-good, closed-held}
+use Rattle.rules.proofs.Drains.{opened-good, opening-few, open-balance, GoodDrain, front-good, next-balance, idx-in, back-good, next-back-balance, last-in, close-balance, front-same, back-same, open-same}
+use Rattle.rules.proofs.Fit.{Fit, fit-shut, stands-shut, fit-drawn, stands-drawn, close-leaves, Leaves, left-held, op-leaves}
 use Rattle.rules.proofs.Held.{length-held, new-good, laid}
 use Rattle.rules.proofs.Images.{length-elements, reading-fits}
 use Rattle.rules.proofs.Lawful.{Lawful}
-use Rattle.rules.proofs.Refusals.{Good, queue-ok}
+use Rattle.rules.proofs.Refusals.{Good, change-ok}
 use Rattle.rules.proofs.Slots.{length-lay}
 use Rattle.rules.proofs.Tests.{by-refusal}
 use Rattle.rules.specs.Calls.{rule}
 use Rattle.rules.specs.Count.{tally, asList}
-use Rattle.rules.specs.Drains.{opened, Drain, wholeList, during, fromFront, fromBack, closedRec, onDrain}
+use Rattle.rules.specs.Drains.{opened, Drain, during, fromFront, fromBack, onDrain, asOpened, closeDrain}
 use Rattle.rules.specs.Images.{laidOut, howMany, elementsIn}
 use Rattle.rules.specs.Makes.{madeWith, noneMade, fresh, readImage}
-use Rattle.rules.specs.Outcome.{Held, Outcome, unchanged, shut, refusal, accepted, recAfter, doRule, drawn, doOpen, handsOver, nextOf, nextBackOf, closed, doNext, doNextBack, doClose}
+use Rattle.rules.specs.Outcome.{Held, Outcome, unchanged, shut, refusal, accepted, recAfter, doRule, drawn, doOpen, handsOver, nextOf, nextBackOf, doNext, doNextBack, doClose}
 use Rattle.rules.specs.Records.{Rec, held, newRec}
-use Rattle.rules.specs.Refusals.{onSlots, onLayout, room, mostSlots, onRange}
-use Rattle.rules.specs.Rule.{Rule}
+use Rattle.rules.specs.Refusals.{onSlots, onLayout, room, mostSlots, onTaking}
+use Rattle.rules.specs.Rule.{Rule, after}
 use Rattle.rules.specs.Sequences.{stands, making, madeOr, Do, doOne, op, freshly, reading, opening, next, nextBack, close}
 use Rattle.rules.specs.Slots.{lay}
 use Rattle.rules.specs.Tests.{unless}
@@ -39,23 +39,48 @@ unfolding unchanged
 keeps-same b h n f = record { slots = refl; fit = f; balance = λ x. refl }
 
 -- the list l is laid from the head of a good record
-pub laid-fit : (b : List ℕ) (r : Rec) (l : List ℕ) → Good (length b) r → Fit (lay b (r .head) l) (shut r)
+laid-fit : (b : List ℕ) (r : Rec) (l : List ℕ) → Good (length b) r → Fit (lay b (r .head) l) (shut r)
 laid-fit b r l g = fit-shut {r = r} (rw length-lay g)
 
-pub laid-stands : (b : List ℕ) (r : Rec) (l : List ℕ) → Good (length b) r → held (lay b (r .head) l) r ≡ l → stands (lay b (r .head) l) (shut r) ≡ l
+laid-stands : (b : List ℕ) (r : Rec) (l : List ℕ) → Good (length b) r → held (lay b (r .head) l) r ≡ l → stands (lay b (r .head) l) (shut r) ≡ l
 laid-stands b r l g e = stands-shut (lay b (r .head) l) r (rw length-lay g) ∙ e
 
 -- ---- one queue
 
+-- what an accepted call leaves stands, and is a queue
+pub left-fit : (b : List ℕ) (r : Rec) (R : Rule) → Leaves b r R → Fit (accepted b r R .slots) (shut (recAfter b r R))
+unfolding accepted
+left-fit b r R L = laid-fit b (recAfter b r R) _ (L .good)
+
+pub left-stands : (b : List ℕ) (r : Rec) (R : Rule) → Leaves b r R → stands (accepted b r R .slots) (shut (recAfter b r R)) ≡ after R (held b r)
+unfolding accepted
+left-stands b r R L = laid-stands b (recAfter b r R) _ (L .good) (left-held b r R L)
+
+pub left-slots : (b : List ℕ) (r : Rec) (R : Rule) → length (accepted b r R .slots) ≡ length b
+unfolding accepted
+left-slots b r R = length-lay b _ _
+
+-- and so does a list that is laid under a new record
+pub made-fit : (b l : List ℕ) → length l ≤ length b → Fit (lay b 0 l) (shut (newRec (length l)))
+unfolding newRec
+made-fit b l le = laid-fit b (newRec (length l)) l (new-good (length b) (length l) le)
+
+pub made-stands : (b l : List ℕ) → length l ≤ length b → stands (lay b 0 l) (shut (newRec (length l))) ≡ l
+unfolding newRec
+made-stands b l le = let n = new-good (length b) (length l) le in laid-stands b (newRec (length l)) l n (laid b (newRec (length l)) l n refl)
+
+-- an accepted call, on the queue with the record r
+accepted-keeps : (b : List ℕ) (h : Held) (r : Rec) (R : Rule) → Leaves b r R
+    → ((x : ℕ) → tally x (stands b h) + tally x (R .entered (held b r)) ≡ tally x (after R (held b r)) + tally x (R .left (held b r))) → Keeps b h (accepted b r R)
+unfolding accepted
+accepted-keeps b h r R L e = record { slots = left-slots b r R; fit = left-fit b r R L; balance = λ x. rw (left-stands b r R L) (e x) }
+
 module _ (b : List ℕ) (r : Rec) (g : Good (length b) r) where
   op-accepted : (R : Rule) → Lawful R → refusal (length b) r R ≡ 0 → Keeps b (shut r) (accepted b r R)
-  unfolding accepted refusal
-  op-accepted R L e = record {
-    slots = length-lay b _ _;
-    fit = laid-fit b (recAfter b r R) _ (op-good b r R L e);
-    balance = λ x. rw (stands-shut b r g, laid-stands b (recAfter b r R) _ (op-good b r R L e) (op-held b r R L e))
-        (L .balance x (length b) (held b r) (rw length-held (queue-ok (length b) r _ e .1)));
-  }
+  unfolding refusal
+  op-accepted R L e =
+      accepted-keeps b (shut r) r R (op-leaves b r R L e)
+      (λ x. rw (stands-shut b r g) (L .balance x (length b) (held b r) (rw length-held (change-ok (length b) r _ e .1))))
 
   keeps-op : (R : Rule) → Lawful R → Keeps b (shut r) (doRule b r R)
   unfolding doRule
@@ -63,13 +88,8 @@ module _ (b : List ℕ) (r : Rec) (g : Good (length b) r) where
 
   -- a call that makes a record over the list l: what stood has left
   made-keeps : (l : List ℕ) → length l ≤ length b → Keeps b (shut r) (making b (shut r) (madeWith b l))
-  unfolding making madeWith madeOr unless newRec
-  made-keeps l le =
-      let n = new-good (length b) (length l) le in
-      record { slots = length-lay b 0 l; fit = laid-fit b (newRec (length l)) l n; balance = λ x. rw (new-stands n) (omega arith) }
-    where
-      new-stands : Good (length b) (newRec (length l)) → stands (lay b 0 l) (shut (newRec (length l))) ≡ l
-      new-stands n = laid-stands b (newRec (length l)) l n (laid b (newRec (length l)) l n refl)
+  unfolding making madeWith madeOr unless
+  made-keeps l le = record { slots = length-lay b 0 l; fit = made-fit b l le; balance = λ x. rw (made-stands b l le) (omega arith) }
 
   -- and one that makes none
   unmade-keeps : (n : ℕ) → Keeps b (shut r) (making b (shut r) (noneMade b (suc n)))
@@ -90,24 +110,24 @@ module _ (b : List ℕ) (r : Rec) (g : Good (length b) r) where
   keeps-reading s = made-or-not (onSlots (length b) (onLayout (laidOut s) (room (length b) (howMany s)))) (elementsIn s)
       (λ e. rw (length-elements s) (reading-fits (length b) s e))
 
-  open-keeps : (s e : ℕ) → onRange (length b) r s e ≡ 0 → Keeps b (shut r) (unchanged b (drawn (opened r s e)) 0)
+  open-keeps : (s e : ℕ) → onTaking (length b) r s e ≡ 0 → Keeps b (shut r) (unchanged b (drawn (opened r s e)) 0)
   unfolding unchanged
   open-keeps s e z =
       let d = opened-good (length b) r s e z in
       record {
         slots = refl;
         fit = fit-drawn (opening-few (length b) r s e z) d;
-        balance = λ x. rw (stands-shut b r g, stands-drawn b (opened r s e) d, open-whole b r s e z, open-balance x r s e (held b r));
+        balance = λ x. rw (stands-shut b r g, stands-drawn b (opened r s e) d, open-same (length b) r s e z, open-balance x r s e (held b r));
       }
 
   keeps-open : (s e : ℕ) → Keeps b (shut r) (doOpen b r s e)
   unfolding doOpen
-  keeps-open s e = by-refusal (onRange (length b) r s e) (Keeps b (shut r)) (open-keeps s e) (keeps-same b (shut r) _ (fit-shut g))
+  keeps-open s e = by-refusal (onTaking (length b) r s e) (Keeps b (shut r)) (open-keeps s e) (keeps-same b (shut r) _ (fit-shut g))
 
 module _ (b : List ℕ) (d : Drain) (few : length b ≤ mostSlots) (g : GoodDrain (length b) d) where
   -- the drain, now d′, has handed v over
-  hand-keeps : (d′ : Drain) (v : ℕ) → GoodDrain (length b) d′ → wholeList b d′ ≡ wholeList b d
-      → ((x : ℕ) → tally x (during (wholeList b d) d) ≡ tally x (during (wholeList b d) d′) + tally x (v ∷ [])) → Keeps b (drawn d) (handsOver b d′ v)
+  hand-keeps : (d′ : Drain) (v : ℕ) → GoodDrain (length b) d′ → asOpened d′ ≡ asOpened d
+      → ((x : ℕ) → tally x (during (held b (asOpened d)) d) ≡ tally x (during (held b (asOpened d)) d′) + tally x (v ∷ [])) → Keeps b (drawn d) (handsOver b d′ v)
   unfolding handsOver asList
   hand-keeps d′ v g′ w e =
       record { slots = refl; fit = fit-drawn few g′; balance = λ x. rw (stands-drawn b d g, stands-drawn b d′ g′, w) (omega (arith, e x, tally-nil x)) }
@@ -116,25 +136,21 @@ module _ (b : List ℕ) (d : Drain) (few : length b ≤ mostSlots) (g : GoodDrai
   unfolding nextOf
   next-keeps zero e = keeps-same b (drawn d) 0 (fit-drawn few g)
   next-keeps (suc n) e =
-      hand-keeps (fromFront d) _ (front-good (length b) n d g e) (front-whole b d)
-      (λ x. next-balance x (wholeList b d) d n e (rw length-whole (idx-in (length b) d g n e)))
+      hand-keeps (fromFront d) _ (front-good (length b) n d g e) (front-same d)
+      (λ x. next-balance x (held b (asOpened d)) d n e (rw length-held (idx-in (length b) d g n e)))
 
   next-back-keeps : (n : ℕ) → d .remaining ≡ n → Keeps b (drawn d) (nextBackOf b d n)
   unfolding nextBackOf
   next-back-keeps zero e = keeps-same b (drawn d) 0 (fit-drawn few g)
   next-back-keeps (suc n) e =
-      hand-keeps (fromBack d) _ (back-good (length b) n d g e) (back-whole b d)
-      (λ x. next-back-balance x (wholeList b d) d n e (rw length-whole (last-in (length b) d g n e)))
+      hand-keeps (fromBack d) _ (back-good (length b) n d g e) (back-same d)
+      (λ x. next-back-balance x (held b (asOpened d)) d n e (rw length-held (last-in (length b) d g n e)))
 
-  closed-keeps : Keeps b (drawn d) (closed b d)
-  unfolding closed
+  closed-keeps : Keeps b (drawn d) (accepted b (asOpened d) (closeDrain d))
+  unfolding closeDrain
   closed-keeps =
-      let k = close-good (length b) d g in
-      record {
-        slots = length-lay b _ _;
-        fit = laid-fit b (closedRec (length b) d) _ k;
-        balance = λ x. rw (stands-drawn b d g, laid-stands b (closedRec (length b) d) _ k (closed-held b d g)) (omega (arith, close-balance x (wholeList b d) d, tally-nil x));
-      }
+      accepted-keeps b (drawn d) (asOpened d) (closeDrain d) (close-leaves b d g)
+      (λ x. rw (stands-drawn b d g) (omega (arith, close-balance x (held b (asOpened d)) d, tally-nil x)))
 
   -- refused, or as the drain's record says
   keeps-drain : (o : Outcome) → Keeps b (drawn d) o → Keeps b (drawn d) (unless (onDrain (length b) d) o (unchanged b (drawn d) (onDrain (length b) d)))

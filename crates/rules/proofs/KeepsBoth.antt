@@ -5,20 +5,23 @@ use mathlib.Core.Option.{some, none, Option}
 use mathlib.Core.Path.{_≡_, refl}
 use Prim.Native.Nat.{ℕ, _+_}
 use native.Mathlib.Omega.{arith}
-use lib.ListN.{length, drop}
+use lib.ListN.{length}
 use Rattle.rules.proofs.Count.{tally-append, tally-nil, tally-split}
 use Rattle.rules.proofs.Fit.{Fit, fit-shut, stands-shut, fit-drawn}
-use Rattle.rules.proofs.Keeps.{laid-fit, laid-stands, keeps-one}
-use Rattle.rules.proofs.Pairs.{appended-good, append-held, emptied-held, split-good, target-held, split-held}
+use Rattle.rules.proofs.Keeps.{keeps-one, made-fit, left-stands, made-stands, left-fit, left-slots}
+use Rattle.rules.proofs.Made.{map-made}
+use Rattle.rules.proofs.Pairs.{append-leaves, split-leaves}
 use Rattle.rules.proofs.Refusals.{Good}
 use Rattle.rules.proofs.Slots.{length-lay}
 use Rattle.rules.proofs.Tests.{unless-stop, by-either}
 use Rattle.rules.specs.Count.{tally}
+use Rattle.rules.specs.Ends.{clear, truncate}
+use Rattle.rules.specs.Joins.{extendWith}
+use Rattle.rules.specs.Makes.{madeWith}
 use Rattle.rules.specs.Outcome.{Held, shut}
-use Rattle.rules.specs.Pairs.{onAppending, appended, appendedRec, emptied, doAppend, onSplitting, targetRec, splitted, splitRec, doSplit}
-use Rattle.rules.specs.Records.{Rec, held, newRec}
+use Rattle.rules.specs.Pairs.{onAppending, appended, doAppend, onSplitting, splitted, doSplit, crossing}
+use Rattle.rules.specs.Records.{Rec, held}
 use Rattle.rules.specs.Sequences.{Queue, CallStep, stands, noStep, madeOr, queueOf, bothStep, appendStep, splitStep, Call, firstStep, oneStep, on, appending, splitting, Pair, step, sideA, turn, sideB, Turn, Side}
-use Rattle.rules.specs.Slots.{lay}
 use Rattle.rules.specs.Tests.{unless}
 
 pub record Keeps2 (p q : Queue) (s : CallStep) : Type 0 where
@@ -51,16 +54,16 @@ module _ (b : List ℕ) (r : Rec) (g : Good (length b) r) (b′ : List ℕ) (r�
       rw (same, unless-stop n gone [] ne) (record { slots-a = refl; slots-b = refl; fit-a = fit-shut g; fit-b = fit-shut g′; balance = λ x. refl })
 
   append-done : onAppending (length b) r (length b′) r′ ≡ 0 → Keeps2 (queueOf b (shut r)) (queueOf b′ (shut r′)) (bothStep (shut r′) (appended b r b′ r′) [])
-  unfolding bothStep appended madeOr unless
+  unfolding bothStep appended crossing madeOr unless extendWith clear
   append-done z =
-      let o = appended-good (length b) r (length b′) r′ z in
+      let o = append-leaves b r b′ r′ z in
       record {
-        slots-a = length-lay b _ _;
-        slots-b = refl;
-        fit-a = laid-fit b (appendedRec r r′) _ (o .0);
-        fit-b = fit-shut (o .1);
+        slots-a = left-slots b r _;
+        slots-b = left-slots b′ r′ _;
+        fit-a = left-fit b r _ (o .0);
+        fit-b = left-fit b′ r′ _ (o .1);
         balance = λ x.
-            rw (stands-shut b r g, stands-shut b′ r′ g′, laid-stands b (appendedRec r r′) _ (o .0) (append-held b r b′ r′ z), stands-shut b′ (emptied r′) (o .1), emptied-held, tally-append)
+            rw (stands-shut b r g, stands-shut b′ r′ g′, left-stands b r _ (o .0), left-stands b′ r′ _ (o .1), map-made, tally-append)
             (omega (arith, tally-nil x));
       }
 
@@ -70,28 +73,17 @@ module _ (b : List ℕ) (r : Rec) (g : Good (length b) r) (b′ : List ℕ) (r�
       by-either (onAppending (length b) r (length b′) r′) (λ m. Keeps2 (queueOf b (shut r)) (queueOf b′ (shut r′)) (bothStep (shut r′) m [])) append-done
       (λ ne. refused-keeps _ (some r′) [] ne (made-some (shut r′) r′))
 
-  -- the target: filled from slot 0
-  target-fit : (at : ℕ) → onSplitting (length b) r (length b′) at ≡ 0 → Fit (lay b′ 0 (drop at (held b r))) (shut (targetRec r at))
-  unfolding targetRec newRec
-  target-fit at z = laid-fit b′ (targetRec r at) (drop at (held b r)) (split-good (length b) r (length b′) at z .1)
-
-  target-stands : (at : ℕ) → onSplitting (length b) r (length b′) at ≡ 0 → stands (lay b′ 0 (drop at (held b r))) (shut (targetRec r at)) ≡ drop at (held b r)
-  unfolding targetRec newRec
-  target-stands at z = laid-stands b′ (targetRec r at) (drop at (held b r)) (split-good (length b) r (length b′) at z .1) (target-held b r b′ at z)
-
   split-done : (at : ℕ) → onSplitting (length b) r (length b′) at ≡ 0
       → Keeps2 (queueOf b (shut r)) (queueOf b′ (shut r′)) (bothStep (shut r′) (splitted b r b′ at) (stands b′ (shut r′)))
-  unfolding bothStep splitted madeOr unless
+  unfolding bothStep splitted crossing madeWith madeOr unless truncate
   split-done at z =
-      let o = split-good (length b) r (length b′) at z in
+      let o = split-leaves b r (length b′) at z in
       record {
-        slots-a = refl;
+        slots-a = left-slots b r _;
         slots-b = length-lay b′ _ _;
-        fit-a = fit-shut (o .0);
-        fit-b = target-fit at z;
-        balance = λ x.
-            rw (stands-shut b r g, stands-shut b (splitRec r at) (o .0), split-held b r (length b′) at z, target-stands at z)
-            (omega (arith, tally-split x at (held b r), tally-nil x));
+        fit-a = left-fit b r _ (o .0);
+        fit-b = made-fit b′ _ (o .1);
+        balance = λ x. rw (stands-shut b r g, left-stands b r _ (o .0), made-stands b′ _ (o .1)) (omega (arith, tally-split x at (held b r), tally-nil x));
       }
 
   keeps-split : (at : ℕ) → Keeps2 (queueOf b (shut r)) (queueOf b′ (shut r′)) (bothStep (shut r′) (doSplit b r b′ at) (stands b′ (shut r′)))

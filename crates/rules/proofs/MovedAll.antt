@@ -6,10 +6,10 @@ use native.Mathlib.Nat.{suc-ne-zero}
 use native.Mathlib.Omega.{arith}
 use lib.ListN.{length, take, length-take, drop, length-drop, take-append-drop}
 use lib.Seq.{drop-drop}
-use Rattle.rules.proofs.Drains.{spread-fits, opening-range, open-spread, GoodDrain}
+use Rattle.rules.proofs.Drains.{opening-range, GoodDrain, front-same, back-same, open-same}
 use Rattle.rules.proofs.Fit.{Fit, fit-shut, fit-drawn}
 use Rattle.rules.proofs.Marks.{length-marks, length-places, strays-append, none-taken, none-dropped, strays-made}
-use Rattle.rules.proofs.Moved.{MovedTrue, same-moved}
+use Rattle.rules.proofs.Moved.{MovedTrue, same-moved, MovedAt}
 use Rattle.rules.proofs.MovedEnds.{pushBack-moved, pushFront-moved, popFront-moved, popBack-moved, popFrontIf-moved, popBackIf-moved, truncate-moved, truncateFront-moved, clear-moved}
 use Rattle.rules.proofs.MovedMiddle.{extend-moved, prepend-moved, extendFront-moved, resize-moved, insert-moved, remove-moved}
 use Rattle.rules.proofs.MovedRetain.{retain-moved}
@@ -19,13 +19,14 @@ use Rattle.rules.proofs.Refusals.{Good}
 use Rattle.rules.proofs.Slots.{length-lay}
 use Rattle.rules.proofs.Tests.{when-accepted}
 use Rattle.rules.specs.Calls.{Op, rule, pushBack!, pushFront!, popFront!, popBack!, popFrontIf!, popBackIf!, truncate!, truncateFront!, clear!, extend!, prepend!, extendFront!, resize!, insert!, remove!, swap!, swapRemoveFront!, swapRemoveBack!, retain!, splice! }
-use Rattle.rules.specs.Drains.{Drain, during, handable, spread, opened, fromFront, fromBack, closedRec, onDrain}
+use Rattle.rules.specs.Drains.{Drain, during, handable, spread, opened, fromFront, fromBack, onDrain, asOpened, closeDrain}
 use Rattle.rules.specs.Images.{elementsIn, laidOut, howMany}
 use Rattle.rules.specs.Makes.{madeWith, noneMade, fresh, readImage}
 use Rattle.rules.specs.Moves.{strays, marksFrom, placesFrom, standing, marksOf, placesOf, marksAfter, marked, Marked}
-use Rattle.rules.specs.Outcome.{Held, Outcome, refusal, shut, accepted, unchanged, drawn, doRule, doOpen, handsOver, nextOf, nextBackOf, closed, doNext, doNextBack, doClose}
+use Rattle.rules.specs.Outcome.{Held, Outcome, refusal, shut, accepted, unchanged, drawn, doRule, doOpen, handsOver, nextOf, nextBackOf, doNext, doNextBack, doClose}
 use Rattle.rules.specs.Records.{Rec}
-use Rattle.rules.specs.Refusals.{mostSlots, onSlots, onLayout, room, onRange}
+use Rattle.rules.specs.Refusals.{mostSlots, onSlots, onLayout, room, onTaking}
+use Rattle.rules.specs.Rule.{Rule}
 use Rattle.rules.specs.Sequences.{Side, Do, op, opening, making, next, nextBack, close, freshly, reading, doOne}
 use Rattle.rules.specs.Tests.{unless}
 
@@ -79,7 +80,7 @@ module _ (s : Side) (b : List ℕ) where
   pub stands-still : {h : Held} → Fit b h → strays s (standing h (marksOf s b h)) (placesOf (length b) h) ≡ 0
   unfolding standing marksOf placesOf
   stands-still (fit-shut {r = r} g) = sym (same-moved s b (r .head) (r .len) (g .placed) (g .fits))
-  stands-still (fit-drawn {d = d} few g) = during-stands (d .head) (spread d) (g .head) (spread-fits (length b) d g) d
+  stands-still (fit-drawn {d = d} few g) = during-stands (d .head) (spread d) (g .whole .placed) (g .whole .fits) d
 
 -- ---- a call on one queue
 
@@ -87,9 +88,19 @@ module _ (s : Side) (b : List ℕ) where
 abbrev pub Counted : Side → List ℕ → Held → Do → Outcome → Type 0
 Counted s b h k o = o .answer .moved ≡ strays s (marksAfter h k (marksOf s b h)) (placesOf (length (o .slots)) (o .answer .held))
 
-accepted-counted : (s : Side) (b : List ℕ) (r : Rec) (o : Op) → refusal (length b) r (rule o) ≡ 0 → Counted s b (shut r) (op o) (accepted b r (rule o))
-unfolding accepted marksAfter marksOf placesOf
-accepted-counted s b r o e = rw length-lay (moved-true o s b r e)
+-- an accepted call, on the queue with the record r
+accepted-counted : (s : Side) (b : List ℕ) (h : Held) (k : Do) (r : Rec) (R : Rule) → marksAfter h k (marksOf s b h) ≡ R .list Marked marked (marksFrom s (length b) b (r .head) (r .len))
+    → MovedAt R s b r → Counted s b h k (accepted b r R)
+unfolding accepted placesOf
+accepted-counted s b h k r R is m = rw (length-lay, is) m
+
+op-marks : (s : Side) (b : List ℕ) (r : Rec) (o : Op) → marksAfter (shut r) (op o) (marksOf s b (shut r)) ≡ rule o .list Marked marked (marksFrom s (length b) b (r .head) (r .len))
+unfolding marksAfter marksOf
+op-marks s b r o = refl
+
+close-marks : (s : Side) (b : List ℕ) (d : Drain) → marksAfter (drawn d) close (marksOf s b (drawn d)) ≡ closeDrain d .list Marked marked (marksFrom s (length b) b (d .head) (spread d))
+unfolding marksAfter marksOf
+close-marks s b d = refl
 
 -- opening a drain leaves every element where it stands
 during-all : (r : Rec) (x e : ℕ) (l : List ℕ) → x ≤ e → e ≤ length l → during l (opened r x e) ≡ l
@@ -97,12 +108,12 @@ unfolding during handable opened
 during-all r x e l le le′ =
     rw (← drop-drop (e - x) x l) (ap (λ (m : List ℕ). take x l ++ m) (take-append-drop (e - x) (drop x l)) ∙ take-append-drop x l)
 
-opened-counted : (s : Side) (b : List ℕ) (r : Rec) → Good (length b) r → (x e : ℕ) → onRange (length b) r x e ≡ 0
+opened-counted : (s : Side) (b : List ℕ) (r : Rec) → Good (length b) r → (x e : ℕ) → onTaking (length b) r x e ≡ 0
     → Counted s b (shut r) (opening x e) (unchanged b (drawn (opened r x e)) 0)
 unfolding unchanged marksAfter marksOf placesOf opened during
 opened-counted s b r g x e z =
     let o = opening-range (length b) r x e z in
-    rw (open-spread (length b) r x e z, during-all r x e (placesFrom (length b) (r .head) (r .len)) (o .0) (rw length-places (o .1))) (same-moved s b (r .head) (r .len) (g .placed) (g .fits))
+    rw (ap (λ (k : Rec). k .len) (open-same (length b) r x e z), during-all r x e (placesFrom (length b) (r .head) (r .len)) (o .0) (rw length-places (o .1))) (same-moved s b (r .head) (r .len) (g .placed) (g .fits))
 
 module _ (s : Side) (b : List ℕ) where
   -- nothing was done
@@ -118,11 +129,11 @@ module _ (s : Side) (b : List ℕ) where
   module _ (r : Rec) (g : Good (length b) r) where
     op-counted : (o : Op) → doRule b r (rule o) .answer .refused ≡ 0 → Counted s b (shut r) (op o) (doRule b r (rule o))
     unfolding doRule
-    op-counted o z = counted (shut r) (op o) (refusal (length b) r (rule o)) (accepted b r (rule o)) z (accepted-counted s b r o)
+    op-counted o z = counted (shut r) (op o) (refusal (length b) r (rule o)) (accepted b r (rule o)) z (λ e. accepted-counted s b (shut r) (op o) r (rule o) (op-marks s b r o) (moved-true o s b r e))
 
     opening-counted : (x e : ℕ) → doOpen b r x e .answer .refused ≡ 0 → Counted s b (shut r) (opening x e) (doOpen b r x e)
     unfolding doOpen
-    opening-counted x e z = counted (shut r) (opening x e) (onRange (length b) r x e) (unchanged b (drawn (opened r x e)) 0) z (opened-counted s b r g x e)
+    opening-counted x e z = counted (shut r) (opening x e) (onTaking (length b) r x e) (unchanged b (drawn (opened r x e)) 0) z (opened-counted s b r g x e)
 
     -- a record is made over elements from outside: none stood before
     making-counted : (k : Do) (l : List ℕ) (n : ℕ) → marksAfter (shut r) k (marksOf s b (shut r)) ≡ map (marked .made) l
@@ -132,14 +143,6 @@ module _ (s : Side) (b : List ℕ) where
     making-counted k l (suc n) e z = absurd (suc-ne-zero n z)
 
 -- what handing over leaves of a drain's record
-front-same : (d : Drain) → (fromFront d .head ≡ d .head) × (spread (fromFront d) ≡ spread d)
-unfolding fromFront spread
-front-same d = (refl, refl)
-
-back-same : (d : Drain) → (fromBack d .head ≡ d .head) × (spread (fromBack d) ≡ spread d)
-unfolding fromBack spread
-back-same d = (refl, refl)
-
 front-none : (d : Drain) → d .remaining ≡ 0 → (fromFront d .remaining ≡ 0) × (fromFront d .start ≡ d .start) × (fromFront d .drained ≡ d .drained)
 unfolding fromFront
 front-none d z = (omega arith, refl, refl)
@@ -151,9 +154,9 @@ back-none d z = (omega arith, refl, refl)
 module _ (s : Side) (b : List ℕ) (d : Drain) (few : length b ≤ mostSlots) (g : GoodDrain (length b) d) where
   -- the drain, now d′, in the same list
   handing-counted : (k : Do) (d′ : Drain) (v : ℕ) → marksAfter (drawn d) k (marksOf s b (drawn d)) ≡ during (marksFrom s (length b) b (d .head) (spread d)) d′
-      → d′ .head ≡ d .head → spread d′ ≡ spread d → Counted s b (drawn d) k (handsOver b d′ v)
+      → asOpened d′ ≡ asOpened d → Counted s b (drawn d) k (handsOver b d′ v)
   unfolding handsOver placesOf during handable
-  handing-counted k d′ v e same-head same-spread = sym (rw (e, same-spread, same-head) (during-stands s b (d .head) (spread d) (g .head) (spread-fits (length b) d g) d′))
+  handing-counted k d′ v e same = sym (rw (e, ap (λ (k : Rec). k .len) same, ap (λ (k : Rec). k .head) same) (during-stands s b (d .head) (spread d) (g .whole .placed) (g .whole .fits) d′))
 
   -- where none remains, none can be handed over
   none-remains : (d′ : Drain) → d .remaining ≡ 0 → d′ .remaining ≡ 0 → d′ .start ≡ d .start → d′ .drained ≡ d .drained → (w : List Marked) → during w d′ ≡ during w d
@@ -163,16 +166,15 @@ module _ (s : Side) (b : List ℕ) (d : Drain) (few : length b ≤ mostSlots) (g
   next-counted : (n : ℕ) → d .remaining ≡ n → Counted s b (drawn d) next (nextOf b d n)
   unfolding nextOf marksAfter marksOf standing during
   next-counted zero e = passed-over s b (drawn d) next (let k = front-none d e in none-remains (fromFront d) e (k .0) (k .1) (k .2) _) (fit-drawn few g)
-  next-counted (suc n) e = handing-counted next (fromFront d) _ refl (front-same d .0) (front-same d .1)
+  next-counted (suc n) e = handing-counted next (fromFront d) _ refl (front-same d)
 
   next-back-counted : (n : ℕ) → d .remaining ≡ n → Counted s b (drawn d) nextBack (nextBackOf b d n)
   unfolding nextBackOf marksAfter marksOf standing during
   next-back-counted zero e = passed-over s b (drawn d) nextBack (let k = back-none d e in none-remains (fromBack d) e (k .0) (k .1) (k .2) _) (fit-drawn few g)
-  next-back-counted (suc n) e = handing-counted nextBack (fromBack d) _ refl (back-same d .0) (back-same d .1)
+  next-back-counted (suc n) e = handing-counted nextBack (fromBack d) _ refl (back-same d)
 
-  closed-counted : Counted s b (drawn d) close (closed b d)
-  unfolding closed marksAfter marksOf placesOf closedRec
-  closed-counted = rw length-lay (close-moved s b d g)
+  closed-counted : Counted s b (drawn d) close (accepted b (asOpened d) (closeDrain d))
+  closed-counted = accepted-counted s b (drawn d) close (asOpened d) (closeDrain d) (close-marks s b d) (close-moved s b d g)
 
   -- as the drain's record says
   drain-counted : (k : Do) (o : Outcome) → Counted s b (drawn d) k o → unless (onDrain (length b) d) o (unchanged b (drawn d) (onDrain (length b) d)) .answer .refused ≡ 0

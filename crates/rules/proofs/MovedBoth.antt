@@ -3,10 +3,11 @@ use mathlib.Core.List.{List, _++_, []}
 use mathlib.Core.Logic.{⊎-elim}
 use mathlib.Core.Option.{Option, some, none}
 use mathlib.Core.Path.{_≡_, _∙_, sym, refl}
-use Prim.Native.Nat.{ℕ, _≤_, _-_, _<_, _+_}
+use Prim.Native.Nat.{ℕ, _≤_, _-_, _<_, _+_, min}
 use native.Mathlib.Omega.{arith}
-use lib.ListN.{length, drop, drop-of-length-le}
+use lib.ListN.{length, drop, drop-of-length-le, length-drop}
 use Rattle.rules.proofs.Fit.{Fit, fit-shut, fit-drawn}
+use Rattle.rules.proofs.Held.{length-held}
 use Rattle.rules.proofs.Marks.{strays-crossed, length-marks, origin-at, length-places, places-add, strays-append, marks-none, strays-none, marks-drop}
 use Rattle.rules.proofs.Moved.{same-moved, take-moved}
 use Rattle.rules.proofs.MovedAll.{stands-still, one-counted}
@@ -14,9 +15,12 @@ use Rattle.rules.proofs.Pairs.{append-ok, split-ok}
 use Rattle.rules.proofs.Places.{place-good}
 use Rattle.rules.proofs.Slots.{length-lay}
 use Rattle.rules.proofs.Tests.{lt-or-ge, when-accepted}
+use Rattle.rules.specs.Ends.{clear, truncate}
+use Rattle.rules.specs.Joins.{extendWith}
+use Rattle.rules.specs.Makes.{madeWith}
 use Rattle.rules.specs.Moves.{elsewhere, slotOf, strays, marksFrom, bothAfter, marksOf, placesOf, placesFrom, marksBoth, standing}
-use Rattle.rules.specs.Outcome.{shut, Held}
-use Rattle.rules.specs.Pairs.{onAppending, appended, appendedRec, emptied, onSplitting, splitted, splitRec, targetRec, Paired, doAppend, doSplit}
+use Rattle.rules.specs.Outcome.{shut, Held, accepted, recAfter}
+use Rattle.rules.specs.Pairs.{onAppending, appended, onSplitting, splitted, Paired, doAppend, doSplit, crossing}
 use Rattle.rules.specs.Places.{place}
 use Rattle.rules.specs.Records.{Rec, stepped, newRec}
 use Rattle.rules.specs.Sequences.{Side, sideA, sideB, Queue, Call, CallStep, bothStep, queueOf, appending, madeOr, splitting, stands, noStep, appendStep, splitStep, firstStep, oneStep, on}
@@ -84,18 +88,19 @@ step-refused b r b′ r′ n x gone = refl
 module _ (b : List ℕ) (r : Rec) (b′ : List ℕ) (r′ : Rec) where
   append-counted : onAppending (length b) r (length b′) r′ ≡ 0
       → CountedBoth (queueOf b (shut r)) (queueOf b′ (shut r′)) appending (bothStep (shut r′) (appended b r b′ r′) [])
-  unfolding bothStep appended appendedRec emptied stepped madeOr bothAfter marksOf placesOf
+  unfolding bothStep appended crossing accepted recAfter extendWith clear stepped madeOr bothAfter marksOf placesOf
   append-counted z =
       let o = append-ok (length b) r (length b′) r′ z in
-      rw (length-lay, strays-none) (omega (arith, joined b (r .head) (r .len) b′ (r′ .head) (r′ .len) (o .0 .placed) (o .2) (o .1 .placed) (o .1 .fits)))
+      rw (length-lay, length-held, strays-none) (omega (arith, joined b (r .head) (r .len) b′ (r′ .head) (r′ .len) (o .0 .placed) (o .2) (o .1 .placed) (o .1 .fits)))
 
   split-counted : (i : ℕ) → onSplitting (length b) r (length b′) i ≡ 0
       → CountedBoth (queueOf b (shut r)) (queueOf b′ (shut r′)) (splitting i) (bothStep (shut r′) (splitted b r b′ i) (stands b′ (shut r′)))
-  unfolding bothStep splitted splitRec targetRec stepped newRec madeOr bothAfter marksOf placesOf
+  unfolding bothStep splitted crossing accepted recAfter truncate madeWith stepped newRec madeOr bothAfter marksOf placesOf
   split-counted i z =
       let o = split-ok (length b) r (length b′) i z in
       let g = o .0 in
-      rw length-lay (omega (
+      let all : min i (r .len) ≡ i = omega (arith, o .1) in
+      rw (length-lay, length-lay, length-drop, length-held, all) (omega (
         arith,
         take-moved sideA b (r .head) (r .len) (g .placed) (g .fits) i (o .1),
         parted b (r .head) (r .len) i (length b′) (g .placed) (g .fits) (o .1),

@@ -11,7 +11,7 @@ use Rattle.rules.proofs.Held.{length-held}
 use Rattle.rules.proofs.Marks.{length-marks, marks-none, strays-none, numbers-marks}
 use Rattle.rules.proofs.Moved.{MovedTrue, behind-moved, cut-behind, front-moved, drop-moved, take-moved, take-most, same-moved}
 use Rattle.rules.proofs.Places.{stepBack-good, place-zero, step-back-on}
-use Rattle.rules.proofs.Refusals.{queue-ok, room-ok, Good}
+use Rattle.rules.proofs.Refusals.{change-ok, room-ok, Good}
 use Rattle.rules.proofs.Tests.{by-test, neqb→ne, by-test₃, by-test₂}
 use Rattle.rules.specs.Conditions.{passes, Test, meets}
 use Rattle.rules.specs.Ends.{pushBack, pushFront, popFront, popBack, truncate, truncateFront, clear, popFrontIf, popBackIf}
@@ -29,14 +29,14 @@ module _ (d : Side) (b : List ℕ) (r : Rec) where
 pub pushBack-moved : (v : ℕ) → MovedTrue (pushBack v)
 unfolding refusal recAfter stepped pushBack
 pushBack-moved v d b r e =
-    let q = queue-ok (length b) r _ e in
+    let q = change-ok (length b) r _ e in
     behind-moved d b (r .head) (r .len) (q .0 .placed) (q .0 .fits) _ (r .len + 1) (r .len) (v ∷ [])
     (cut-behind _ (r .len) (all-marks d b r) (map (marked .made) (v ∷ []))) (omega arith) refl (room-ok (length b) (r .len + 1) (q .1))
 
 pub pushFront-moved : (v : ℕ) → MovedTrue (pushFront v)
 unfolding refusal recAfter stepped pushFront
 pushFront-moved v d b r e =
-    let q = queue-ok (length b) r _ e in
+    let q = change-ok (length b) r _ e in
     let room = room-ok (length b) (r .len + 1) (q .1) in
     front-moved d b (r .head) (r .len) (q .0 .placed) (q .0 .fits) _ (stepBack (length b) (r .head) 1) (r .len + 1) 0 (v ∷ []) refl
     (stepBack-good (length b) (r .head) (q .0 .placed) 1) (omega arith) (omega arith) room
@@ -45,7 +45,7 @@ pushFront-moved v d b r e =
 pub popFront-moved : MovedTrue popFront
 unfolding refusal recAfter stepped popFront
 popFront-moved d b r e =
-    let q = queue-ok (length b) r _ e in
+    let q = change-ok (length b) r _ e in
     by-test (eqb (r .len) 0) (λ h′. 0 ≡ strays d (drop 1 (marksFrom d (length b) b (r .head) (r .len))) (placesFrom (length b) h′ (r .len - 1)))
     (λ t. let z = eqb→eq (r .len) 0 t in rw (z, marks-none, strays-none))
     (λ t. drop-moved d b (r .head) (r .len) (q .0 .placed) (q .0 .fits) 1 (omega (arith, neqb→ne (r .len) 0 t)))
@@ -53,19 +53,19 @@ popFront-moved d b r e =
 pub popBack-moved : MovedTrue popBack
 unfolding refusal recAfter stepped popBack
 popBack-moved d b r e =
-    let q = queue-ok (length b) r _ e in
+    let q = change-ok (length b) r _ e in
     rw (all-marks d b r) (take-moved d b (r .head) (r .len) (q .0 .placed) (q .0 .fits) (r .len - 1) (omega arith))
 
 pub truncate-moved : (m : ℕ) → MovedTrue (truncate m)
 unfolding refusal recAfter stepped truncate
 truncate-moved m d b r e =
-    let q = queue-ok (length b) r _ e in
+    let q = change-ok (length b) r _ e in
     rw (take-most _ (r .len) (all-marks d b r) m) (take-moved d b (r .head) (r .len) (q .0 .placed) (q .0 .fits) (min m (r .len)) (omega arith))
 
 pub truncateFront-moved : (m : ℕ) → MovedTrue (truncateFront m)
 unfolding refusal recAfter stepped truncateFront
 truncateFront-moved m d b r e =
-    let q = queue-ok (length b) r _ e in
+    let q = change-ok (length b) r _ e in
     rw (all-marks d b r) (by-test (leb (r .len) m)
     (λ h′. 0 ≡ strays d (drop (r .len - m) (marksFrom d (length b) b (r .head) (r .len))) (placesFrom (length b) h′ (min m (r .len))))
     (λ t. let le = leb→le (r .len) m t in
@@ -97,7 +97,7 @@ module _ (d : Side) (b : List ℕ) (r : Rec) where
 pub popFrontIf-moved : (t : Test) → MovedTrue (popFrontIf t)
 unfolding refusal recAfter stepped popFrontIf
 popFrontIf-moved t d b r e =
-    let q = queue-ok (length b) r _ e in
+    let q = change-ok (length b) r _ e in
     rw (passes-held d b r t 0) (by-flag (passes (meets t) (getElem? (held b r) 0)) (q .0) (λ u. rw length-held at (passes-some (meets t) (held b r) 0 u)))
   where
     by-flag : (p : Bool) → Good (length b) r → (T p → 0 < r .len)
@@ -110,6 +110,6 @@ popFrontIf-moved t d b r e =
 pub popBackIf-moved : (t : Test) → MovedTrue (popBackIf t)
 unfolding refusal recAfter stepped popBackIf
 popBackIf-moved t d b r e =
-    let q = queue-ok (length b) r _ e in
+    let q = change-ok (length b) r _ e in
     rw (all-marks d b r, length-held, passes-held d b r t (r .len - 1)) (by-test₂ (passes (meets t) (getElem? (held b r) (r .len - 1))) (λ w n′. 0 ≡ strays d w (placesFrom (length b) (r .head) n′))
     (λ u. take-moved d b (r .head) (r .len) (q .0 .placed) (q .0 .fits) (r .len - 1) (omega arith)) (λ u. same-moved d b (r .head) (r .len) (q .0 .placed) (q .0 .fits)))

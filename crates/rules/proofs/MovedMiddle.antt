@@ -9,7 +9,7 @@ use lib.Seq.{take-all}
 use Rattle.rules.proofs.Marks.{length-marks, stretch-stays}
 use Rattle.rules.proofs.Moved.{MovedTrue, behind-moved, cut-behind, front-moved, take-most, cut-first, cut-moved, goes, head-goes, same-moved}
 use Rattle.rules.proofs.Places.{stepBack-good, place-zero, step-back-on, place-place, place-good}
-use Rattle.rules.proofs.Refusals.{queue-ok, room-ok}
+use Rattle.rules.proofs.Refusals.{change-ok, room-ok}
 use Rattle.rules.proofs.Tests.{passed, by-test₂, by-test₃}
 use Rattle.rules.specs.Joins.{extendWith, prepend, extendFront, resize}
 use Rattle.rules.specs.Middle.{insertAt, removeAt}
@@ -23,14 +23,14 @@ use Rattle.rules.specs.Records.{stepped}
 pub extend-moved : (vs : List ℕ) → MovedTrue (extendWith vs)
 unfolding refusal recAfter stepped extendWith
 extend-moved vs d b r e =
-    let q = queue-ok (length b) r _ e in
+    let q = change-ok (length b) r _ e in
     behind-moved d b (r .head) (r .len) (q .0 .placed) (q .0 .fits) _ (r .len + length vs) (r .len) vs
     (cut-behind _ (r .len) (length-marks d (length b) b (r .head) (r .len)) (map (marked .made) vs)) (omega arith) refl (room-ok (length b) (r .len + length vs) (q .1))
 
 pub prepend-moved : (vs : List ℕ) → MovedTrue (prepend vs)
 unfolding refusal recAfter stepped prepend
 prepend-moved vs d b r e =
-    let q = queue-ok (length b) r _ e in
+    let q = change-ok (length b) r _ e in
     let room = room-ok (length b) (r .len + length vs) (q .1) in
     front-moved d b (r .head) (r .len) (q .0 .placed) (q .0 .fits) _ (stepBack (length b) (r .head) (length vs)) (r .len + length vs) 0 vs refl
     (stepBack-good (length b) (r .head) (q .0 .placed) (length vs)) (omega arith) (omega arith) room
@@ -47,7 +47,7 @@ map-replicate (suc n) v = ap (λ (l : List Marked). marked .made v ∷ l) (map-r
 pub resize-moved : (m v : ℕ) → MovedTrue (resize m v)
 unfolding refusal recAfter stepped resize
 resize-moved m v d b r e =
-    let q = queue-ok (length b) r _ e in
+    let q = change-ok (length b) r _ e in
     let w = marksFrom d (length b) b (r .head) (r .len) in
     let long = length-marks d (length b) b (r .head) (r .len) in
     rw (long, map-replicate, take-most w (r .len) long m)
@@ -59,7 +59,7 @@ resize-moved m v d b r e =
 pub insert-moved : (i v : ℕ) → MovedTrue (insertAt i v)
 unfolding refusal recAfter stepped insertAt
 insert-moved i v d b r e =
-    let q = queue-ok (length b) r _ e in
+    let q = change-ok (length b) r _ e in
     let g = q .0 in
     let p = passed (leb i (r .len)) 2 _ (q .1) in
     let le = leb→le i (r .len) (p .0) in
@@ -79,7 +79,7 @@ insert-moved i v d b r e =
 pub remove-moved : (i : ℕ) → MovedTrue (removeAt i)
 unfolding refusal recAfter stepped removeAt
 remove-moved i d b r e =
-    let q = queue-ok (length b) r _ e in
+    let q = change-ok (length b) r _ e in
     let g = q .0 in
     let c = length b in
     let h = r .head in

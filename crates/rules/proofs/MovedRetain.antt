@@ -10,7 +10,7 @@ use lib.ListN.{length, getD}
 use Rattle.rules.proofs.Marks.{own-slot, strays-none}
 use Rattle.rules.proofs.Moved.{MovedTrue}
 use Rattle.rules.proofs.Places.{place-place, place-moved, place-low}
-use Rattle.rules.proofs.Refusals.{queue-ok, Good}
+use Rattle.rules.proofs.Refusals.{change-ok, Good}
 use Rattle.rules.proofs.Tests.{by-test₂, by-test₃}
 use Rattle.rules.specs.Conditions.{those, behind, Test, meets}
 use Rattle.rules.specs.Count.{one-if}
@@ -77,7 +77,7 @@ none-there t d b h = refl
 pub retain-moved : (t : Test) → MovedTrue (retain t)
 unfolding refusal recAfter stepped retain held
 retain-moved t d b r e =
-    let g = queue-ok (length b) r _ e .0 in
+    let g = change-ok (length b) r _ e .0 in
     by-count (r .len) refl g
   where
     by-count : (n : ℕ) → r .len ≡ n → Good (length b) r

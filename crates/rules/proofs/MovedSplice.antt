@@ -9,11 +9,11 @@ use lib.Dec.{eqb, eqb→eq, ltb, ltb→lt, nltb→le}
 use lib.ListN.{take, length, drop}
 use Rattle.rules.proofs.Drains.{GoodDrain}
 use Rattle.rules.proofs.Marks.{stretch-none, stretch-stays}
-use Rattle.rules.proofs.Moved.{cut-moved, goes, head-goes, MovedTrue}
+use Rattle.rules.proofs.Moved.{cut-moved, goes, head-goes, MovedTrue, MovedAt}
 use Rattle.rules.proofs.Places.{place-good, place-place}
-use Rattle.rules.proofs.Refusals.{queue-ok, range-ok, room-ok}
+use Rattle.rules.proofs.Refusals.{change-ok, range-ok, room-ok}
 use Rattle.rules.proofs.Tests.{cases, by-test, is-true, is-false, by-test₂, neqb→ne}
-use Rattle.rules.specs.Drains.{Drain, closedMoved, keptList, spread, closedHead}
+use Rattle.rules.specs.Drains.{Drain, closedMoved, keptList, closedHead, closeDrain, asOpened}
 use Rattle.rules.specs.Moves.{strays, marksFrom, marked, placesFrom}
 use Rattle.rules.specs.Outcome.{refusal, recAfter}
 use Rattle.rules.specs.Places.{place}
@@ -62,7 +62,7 @@ module _ (d : Side) (b : List ℕ) (h n : ℕ) (good : h ≤ length b - 1) (fits
 pub splice-moved : (s e : ℕ) (vs : List ℕ) → MovedTrue (splice s e vs)
 unfolding refusal recAfter stepped splice whether
 splice-moved s e vs d b r z =
-    let q = queue-ok (length b) r _ z in
+    let q = change-ok (length b) r _ z in
     let g = q .0 in
     let o = range-ok (r .len) s e _ (q .1) in
     let room = room-ok (length b) _ (o .2) in
@@ -87,28 +87,27 @@ splice-moved s e vs d b r z =
     (λ v. let le = nltb→le (e - s) x v in none-goes d b h n (g .placed) (g .fits) s e vs (o .0) (o .1) room (omega arith))))))
 
 -- closing a drain: the elements in front of it, and those behind
-pub close-moved : (s : Side) (b : List ℕ) (d : Drain) → GoodDrain (length b) d
-    → closedMoved d ≡ strays s (keptList (marksFrom s (length b) b (d .head) (spread d)) d) (placesFrom (length b) (closedHead (length b) d) (d .start + d .tail))
-unfolding closedMoved closedHead keptList spread whether
+pub close-moved : (s : Side) (b : List ℕ) (d : Drain) → GoodDrain (length b) d → MovedAt (closeDrain d) s b (asOpened d)
+unfolding closeDrain closedMoved closedHead keptList recAfter stepped whether
 close-moved s b d g =
     let c = length b in
     let h = d .head in
     let n = d .start + d .drained + d .tail in
     let e = d .start + d .drained in
     let behind : d .start + 0 + (n - e) ≡ d .start + d .tail = omega arith in
-    subst (λ (k : ℕ). closedMoved d ≡ strays s (keptList (marksFrom s c b h n) d) (placesFrom c (closedHead c d) k)) behind (cases (eqb (d .start + d .tail) 0)
+    subst (λ (k : ℕ). closedMoved d ≡ strays s (keptList (marksFrom s c b h n) d) (placesFrom c (closedHead c h d) k)) behind (cases (eqb (d .start + d .tail) 0)
     (λ t. let y = eqb→eq (d .start + d .tail) 0 t in
     let least : whether (eqb (d .drained) 0) 0 (min (d .start) (d .tail)) ≡ 0 = by-test (eqb (d .drained) 0) (λ m. m ≡ 0) (λ u. refl) (λ u. omega arith) in
-    rw (least, is-true (eqb (d .start + d .tail) 0) t) (none-left s b h n (g .head) (g .fits) (d .start) e [] (omega arith) (omega arith) (omega arith) (omega arith)))
+    rw (least, is-true (eqb (d .start + d .tail) 0) t) (none-left s b h n (g .whole .placed) (g .whole .fits) (d .start) e [] (omega arith) (omega arith) (omega arith) (omega arith)))
     (λ t. rw (is-false (eqb (d .start + d .tail) 0) t) (by-test₂ (eqb (d .drained) 0) (Spliced s b h n (d .start) e [])
-    (λ u. let z = eqb→eq (d .drained) 0 u in none-goes s b h n (g .head) (g .fits) (d .start) e [] (omega arith) (omega arith) (omega arith) (omega arith))
+    (λ u. let z = eqb→eq (d .drained) 0 u in none-goes s b h n (g .whole .placed) (g .whole .fits) (d .start) e [] (omega arith) (omega arith) (omega arith) (omega arith))
     (λ u. let ne = neqb→ne (d .drained) 0 u in
     cases (ltb (d .start) (d .tail))
     (λ v. let lt = ltb→lt (d .start) (d .tail) v in
     let least : min (d .start) (d .tail) ≡ d .start = omega arith in
     let hole : e - d .start - 0 ≡ d .drained = omega arith in
     rw (least, is-true (ltb (d .start) (d .tail)) v)
-    (rw hole at (earlier-go s b h n (g .head) (g .fits) (d .start) e [] (omega arith) (omega arith) (omega arith) (omega arith))))
+    (rw hole at (earlier-go s b h n (g .whole .placed) (g .whole .fits) (d .start) e [] (omega arith) (omega arith) (omega arith) (omega arith))))
     (λ v. let ge = nltb→le (d .start) (d .tail) v in
     let least : min (d .start) (d .tail) ≡ n - e = omega arith in
-    rw (least, is-false (ltb (d .start) (d .tail)) v) (later-go s b h n (g .head) (g .fits) (d .start) e [] (omega arith) (omega arith) (omega arith) (λ z. omega arith)))))))
+    rw (least, is-false (ltb (d .start) (d .tail)) v) (later-go s b h n (g .whole .placed) (g .whole .fits) (d .start) e [] (omega arith) (omega arith) (omega arith) (λ z. omega arith)))))))

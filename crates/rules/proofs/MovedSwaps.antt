@@ -13,7 +13,7 @@ use Rattle.rules.proofs.Count.{set-copy}
 use Rattle.rules.proofs.Marks.{origin-at, own-slot, length-marks, length-places, place-at, strays-set, marks-drop, marks-take}
 use Rattle.rules.proofs.Moved.{same-moved, MovedTrue, drop-moved, take-moved}
 use Rattle.rules.proofs.Places.{places-apart, place-low, place-place}
-use Rattle.rules.proofs.Refusals.{queue-ok}
+use Rattle.rules.proofs.Refusals.{change-ok}
 use Rattle.rules.proofs.Tests.{passed, by-test, neqb→ne, by-test₄, by-test₃}
 use Rattle.rules.specs.Count.{one-if}
 use Rattle.rules.specs.Ends.{exchange, swapRemoveFront, swapRemoveBack}
@@ -71,7 +71,7 @@ module _ (d : Side) (b : List ℕ) (h n : ℕ) (in-ring : h < length b) (fits : 
 pub exchange-moved : (i j : ℕ) → MovedTrue (exchange i j)
 unfolding refusal recAfter stepped exchange
 exchange-moved i j d b r e =
-    let q = queue-ok (length b) r _ e in
+    let q = change-ok (length b) r _ e in
     let p = passed (ltb i (r .len)) 2 _ (q .1) in
     let o = passed (ltb j (r .len)) 2 _ (p .1) in
     let lt = ltb→lt i (r .len) (p .0) in
@@ -124,7 +124,7 @@ module _ (d : Side) (b : List ℕ) (h n : ℕ) (in-ring : h < length b) (fits : 
 pub swapRemoveFront-moved : (i : ℕ) → MovedTrue (swapRemoveFront i)
 unfolding refusal recAfter stepped swapRemoveFront
 swapRemoveFront-moved i d b r e =
-    let q = queue-ok (length b) r _ e in
+    let q = change-ok (length b) r _ e in
     let g = q .0 in
     let w = marksFrom d (length b) b (r .head) (r .len) in
     rw (length-marks d (length b) b (r .head) (r .len)) (by-test₄ (ltb i (r .len)) (λ m l h′ n′. m ≡ strays d l (placesFrom (length b) h′ n′))
@@ -137,7 +137,7 @@ swapRemoveFront-moved i d b r e =
 pub swapRemoveBack-moved : (i : ℕ) → MovedTrue (swapRemoveBack i)
 unfolding refusal recAfter stepped swapRemoveBack
 swapRemoveBack-moved i d b r e =
-    let q = queue-ok (length b) r _ e in
+    let q = change-ok (length b) r _ e in
     let g = q .0 in
     let w = marksFrom d (length b) b (r .head) (r .len) in
     rw (length-marks d (length b) b (r .head) (r .len)) (by-test₃ (ltb i (r .len)) (λ m l n′. m ≡ strays d l (placesFrom (length b) (r .head) n′))

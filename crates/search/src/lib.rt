@@ -2,7 +2,8 @@
 use conditions::Test;
 use queue::Checked;
 use queue::Deque;
-use queue::Refusal;
+use queue::Point;
+use queue::Searched;
 ghost use lib.ListN.{length};
 ghost use mathlib.Core.Path.{_≡_};
 ghost use Prim.Native.Nat.{_≤_};
@@ -10,21 +11,8 @@ ghost use Rattle.rules.specs.Conditions.{meets};
 ghost use Rattle.rules.specs.Search.{placeIn, searchFor, partitionBy};
 ghost use Rattle.conditions.specs.Tests.{testOf};
 ghost use Rattle.queue.specs.Answers.{recOf};
-ghost use Rattle.search.specs.Answers.{ofSearched, ofPoint};
+ghost use Rattle.queue.specs.Looks.{ofSearched, ofPoint};
 ghost use Rattle.search.specs.Handed.{begins, handedRun, countedFrom};
-
-// The answer of a search: the position where x stands, or the place to insert it.
-pub enum Searched {
-    Found(usize),
-    Place(usize),
-    Refused(Refusal),
-}
-
-// The answer of `partition_point`.
-pub enum Point {
-    At(usize),
-    Refused(Refusal),
-}
 
 // Whether the run has a first element that meets the test.
 fn begins_with(run: &[u32], test: Test) -> bool

@@ -1,5 +1,5 @@
 // Splice: elements of a lent slice replace a range of a queue.
-use holes::Joined;
+use holes::Settled;
 use places::WrappedIndex;
 use queue::Change;
 use queue::Checked;
@@ -24,7 +24,7 @@ fn make_room(
     drained: usize,
     new: usize,
     tail: usize,
-) -> Joined
+) -> Settled
     requires { ⌜ (head .0 ≤ length (now slots) - 1) × (start + drained + tail ≤ length (now slots)) × (start + new + tail ≤ length (now slots)) × (length (now slots) ≤ mostSlots) ⌝ }
     ensures { λ r. ⌜ SpliceMade (now (slots .entry)) (now (slots .exit)) (head .0) start drained new tail (r .head .0) (r .moved) ⌝ }
 {
@@ -35,7 +35,7 @@ fn make_room(
         //     H
         // [ . h h n n n n t t t . . . . ]
         holes::move_elements(slots, head, start + drained, start + new, tail);
-        return Joined { head, moved: tail };
+        return Settled { head, moved: tail };
     }
     holes::close_hole(slots, head, start, new, drained - new, tail)
 }
@@ -57,24 +57,17 @@ pub fn splice(slots: &mut [u32], q: Deque, start: usize, end: usize, values: &[u
     ensures { λ r. ⌜ (ofChange r, now (slots .exit)) ≡ told (doRule (now (slots .entry)) (recOf q) (splice start end (now (values .entry)))) ⌝ }
 {
     let cap = slots.len();
-    if let Checked::Refused(refusal) = queue::check(cap, q) {
+    if let Checked::Refused(refusal) = queue::check_change(cap, q) {
         return Change::Refused {
             refusal,
             queue: q,
             moved: 0,
         };
     }
-    if start > end {
-        return Change::Refused {
-            refusal: Refusal::Position,
-            queue: q,
-            moved: 0,
-        };
-    }
     let len = q.len;
-    if end > len {
+    if let Checked::Refused(refusal) = queue::check_range(len, start, end) {
         return Change::Refused {
-            refusal: Refusal::Position,
+            refusal,
             queue: q,
             moved: 0,
         };
@@ -89,12 +82,12 @@ pub fn splice(slots: &mut [u32], q: Deque, start: usize, end: usize, values: &[u
         };
     }
     let head = q.head;
-    let joined = make_room(slots, head, start, end - start, new, tail);
-    let first = joined.head;
+    let settled = make_room(slots, head, start, end - start, new, tail);
+    let first = settled.head;
     fill(slots, first, start, values);
     let left = start + new + tail;
     Change::Done {
-        queue: queue::stepped(q, holes::head_over(first, left), left),
-        moved: joined.moved,
+        queue: queue::stepped(q, queue::head_over(first, left), left),
+        moved: settled.moved,
     }
 }

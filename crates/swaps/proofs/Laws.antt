@@ -9,7 +9,7 @@ use borrow.Author.Tests.{le-ltb, lt-ltb, eq-eqb, ne-eqb}
 use lib.ListN.{length, getD, set}
 use lib.Seq.{set-set, set-getD}
 use Rattle.swaps.proofs.Stores.{both-stored, first-out, last-out}
-use Rattle.queue.proofs.Checks.{fine}
+use Rattle.queue.proofs.Checks.{fine-change}
 use Rattle.queue.specs.Answers.{numberOf}
 use Rattle.rules.proofs.Held.{stepped-same}
 use Rattle.rules.proofs.Places.{place-zero}
@@ -19,12 +19,12 @@ use Rattle.rules.specs.Ends.{exchange, swapRemoveFront, swapRemoveBack, popFron
 use Rattle.rules.specs.Outcome.{shut, told, doRule}
 use Rattle.rules.specs.Places.{place}
 use Rattle.rules.specs.Records.{Rec, held, stepped}
-use Rattle.rules.specs.Refusals.{onQueue}
+use Rattle.rules.specs.Refusals.{onChange}
 use Rattle.rules.specs.Slots.{listOf}
 use Rattle.rules.specs.Tests.{ask, whether}
-use Rattle.queue.specs.declared.Refusal.the-variants.{Position}
+use Rattle.queue.specs.declared.refusals.Refusal.the-variants.{Position}
 
-module _ (b : List ℕ) (r : Rec) (first : onQueue (length b) r 0 ≡ 0) where
+module _ (b : List ℕ) (r : Rec) (first : onChange (length b) r 0 ≡ 0) where
   -- ---- two positions
 
   module _ (i j : ℕ) where
@@ -47,7 +47,7 @@ module _ (b : List ℕ) (r : Rec) (first : onQueue (length b) r 0 ≡ 0) where
           → b₁ ≡ set b p (getD b p′ 0) → (record { refused = 0; moved = 2; held = shut r; handed = none }, set b₁ k x) ≡ told (doRule b r (exchange i j))
       unfolding exchange ask whether held
       swapped p p′ k x b₁ lt′ ne at-p at-p′ at-k at-x at-b =
-          let g = fine b r first .good in
+          let g = fine-change b r first .good in
           let h = r .head in
           let in-ring : h < length b = omega arith in
           let one = getD-listOf b h in-ring (r .len) i (g .fits) lt in
@@ -89,7 +89,7 @@ module _ (b : List ℕ) (r : Rec) (first : onQueue (length b) r 0 ≡ 0) where
           → (record { refused = 0; moved = 1; held = shut r′; handed = some v }, b′) ≡ told (doRule b r (swapRemoveFront i))
       unfolding swapRemoveFront held whether
       front-filled v p f r′ b′ ne at-p at-v at-b at-f made =
-          let g = fine b r first .good in
+          let g = fine-change b r first .good in
           let h = r .head in
           let in-ring : h < length b = omega arith in
           let is = lt-ltb i (r .len) lt in
@@ -103,7 +103,7 @@ module _ (b : List ℕ) (r : Rec) (first : onQueue (length b) r 0 ≡ 0) where
           → (record { refused = 0; moved = 1; held = shut r′; handed = some v }, b′) ≡ told (doRule b r (swapRemoveBack i))
       unfolding swapRemoveBack held whether
       back-filled v p e r′ b′ ne at-p at-e at-v at-b made =
-          let g = fine b r first .good in
+          let g = fine-change b r first .good in
           let h = r .head in
           let n = r .len in
           let in-ring : h < length b = omega arith in

@@ -1,18 +1,19 @@
 // The calls that exchange elements, and those that fill a gap from an end.
+use elements::Handed;
 use ends::pop_back;
 use ends::pop_front;
 use places::WrappedIndex;
 use queue::Change;
 use queue::Checked;
 use queue::Deque;
-use queue::Handed;
 use queue::Refusal;
 ghost use mathlib.Core.Path.{_≡_};
 ghost use Prim.Native.Nat.{_<_};
 ghost use lib.ListN.{length, getD, set};
 ghost use Rattle.rules.specs.Ends.{exchange, swapRemoveFront, swapRemoveBack};
 ghost use Rattle.rules.specs.Outcome.{told, doRule};
-ghost use Rattle.queue.specs.Answers.{recOf, ofChange, ofHanded};
+ghost use Rattle.queue.specs.Answers.{recOf, ofChange};
+ghost use Rattle.elements.specs.Answers.{ofHanded};
 
 // Hands over what stands at `at`, and stores there what stands at `from`, which keeps its value.
 fn fill(slots: &mut [u32], at: WrappedIndex, from: WrappedIndex) -> u32
@@ -31,7 +32,7 @@ pub fn swap(slots: &mut [u32], q: Deque, i: usize, j: usize) -> Change
     ensures { λ r. ⌜ (ofChange r, now (slots .exit)) ≡ told (doRule (now (slots .entry)) (recOf q) (exchange i j)) ⌝ }
 {
     let cap = slots.len();
-    if let Checked::Refused(refusal) = queue::check(cap, q) {
+    if let Checked::Refused(refusal) = queue::check_change(cap, q) {
         return Change::Refused {
             refusal,
             queue: q,
@@ -68,7 +69,7 @@ pub fn swap_remove_front(slots: &mut [u32], q: Deque, index: usize) -> Handed
     ensures { λ r. ⌜ (ofHanded r, now (slots .exit)) ≡ told (doRule (now (slots .entry)) (recOf q) (swapRemoveFront index)) ⌝ }
 {
     let cap = slots.len();
-    if let Checked::Refused(refusal) = queue::check(cap, q) {
+    if let Checked::Refused(refusal) = queue::check_change(cap, q) {
         return Handed::Refused {
             refusal,
             queue: q,
@@ -97,7 +98,7 @@ pub fn swap_remove_back(slots: &mut [u32], q: Deque, index: usize) -> Handed
     ensures { λ r. ⌜ (ofHanded r, now (slots .exit)) ≡ told (doRule (now (slots .entry)) (recOf q) (swapRemoveBack index)) ⌝ }
 {
     let cap = slots.len();
-    if let Checked::Refused(refusal) = queue::check(cap, q) {
+    if let Checked::Refused(refusal) = queue::check_change(cap, q) {
         return Handed::Refused {
             refusal,
             queue: q,

@@ -7,9 +7,9 @@ use Rattle.rules.specs.Outcome.{Answer, Held, told, doRule}
 use Rattle.rules.specs.Records.{Rec}
 use Rattle.rules.specs.Sequences.{Do, Seen, Queue, Pair, doOne, appendStep, splitStep, firstStep, step, toldStep}
 use Rattle.rules.specs.Sequences as rules
-use Rattle.turns.specs.Answers.{heldOf}
+use Rattle.queue.specs.Drains.{heldOf}
 use Rattle.turns.specs.Calls.{editOf, joinOf, removalOf, stepOf, singleOf, callOf, sideOf}
-use Rattle.turns.specs.declared.answering.Holding.{Holding}
+use Rattle.queue.specs.declared.records.State.{State}
 use Rattle.turns.specs.declared.calls.Edit.{Edit}
 use Rattle.turns.specs.declared.calls.Join.{Join}
 use Rattle.turns.specs.declared.calls.Removal.{Removal}
@@ -42,17 +42,17 @@ module _ (b b′ : List ℕ) (h : Held) (p a : Answer) where
   single-known vs bs x k e same f = (λ i. (same i, b′)) ∙ known (λ (y : Single). told (doOne b h (singleOf y vs bs))) x k (a, b′) e f
 
 -- what is held of a queue is known
-pub held-known : (b : List ℕ) (k : Do) (s : Answer × List ℕ) (x h : Holding) → x ≡ h → s ≡ told (doOne b (heldOf h) k) → s ≡ told (doOne b (heldOf x) k)
-held-known b k s x h e f = known (λ (y : Holding). told (doOne b (heldOf y) k)) x h s e f
+pub held-known : (b : List ℕ) (k : Do) (s : Answer × List ℕ) (x h : State) → x ≡ h → s ≡ told (doOne b (heldOf h) k) → s ≡ told (doOne b (heldOf x) k)
+held-known b k s x h e f = known (λ (y : State). told (doOne b (heldOf y) k)) x h s e f
 
 -- ---- a call on two queues: b and b′ are their slots before
 
-module _ (b b′ : List ℕ) (s : Seen × List ℕ × List ℕ) (x k : Holding) (e : x ≡ k) (h : Held) where
+module _ (b b′ : List ℕ) (s : Seen × List ℕ × List ℕ) (x k : State) (e : x ≡ k) (h : Held) where
   pub append-known : s ≡ toldStep (appendStep b (heldOf k) b′ h) → s ≡ toldStep (appendStep b (heldOf x) b′ h)
-  append-known f = known (λ (y : Holding). toldStep (appendStep b (heldOf y) b′ h)) x k s e f
+  append-known f = known (λ (y : State). toldStep (appendStep b (heldOf y) b′ h)) x k s e f
 
   pub split-known : (i : ℕ) → s ≡ toldStep (splitStep b (heldOf k) b′ h i) → s ≡ toldStep (splitStep b (heldOf x) b′ h i)
-  split-known i f = known (λ (y : Holding). toldStep (splitStep b (heldOf y) b′ h i)) x k s e f
+  split-known i f = known (λ (y : State). toldStep (splitStep b (heldOf y) b′ h i)) x k s e f
 
 module _ (s : Seen × List ℕ × List ℕ) where
   pub call-known : (vs bs : List ℕ) (p q : Queue) (x k : Call) → x ≡ k → s ≡ toldStep (firstStep p q (callOf k vs bs)) → s ≡ toldStep (firstStep p q (callOf x vs bs))

@@ -4,30 +4,20 @@ use mathlib.Core.Path.{_≡_, sym, _∙_, ap}
 use Prim.Native.Nat.{ℕ}
 use denote.Enum.Declared.{tagOf}
 use types.Run.{OneOf, miss}
-use Rattle.queue.specs.Answers.{numberOf, ofMade}
 use Rattle.rules.specs.Drains.{Drain}
 use Rattle.rules.specs.Calls.{Op, rule}
 use Rattle.rules.specs.Makes.{Making, MadeIn, toldMaking, fresh, readImage}
 use Rattle.rules.specs.Outcome.{Answer, Held, shut, drawn, told, unchanged, doRule, doOpen, doNext, doNextBack, doClose}
 use Rattle.rules.specs.Records.{Rec}
 use Rattle.rules.specs.Sequences.{making, doOne, op, freshly, reading, opening, next, nextBack, close}
-use Rattle.turns.specs.Answers.{noAnswer, refusing, madeAnswer}
+use Rattle.answers.specs.Answers.{madeAnswer}
+use Rattle.turns.specs.Answers.{noAnswer}
 use Rattle.turns.specs.Calls.{stepOf, singleOf}
 use Rattle.turns.proofs.calls.Single.{the-type}
-use Rattle.queue.specs.declared.Refusal.{Refusal}
-use Rattle.queue.specs.declared.Made.{Made}
 use Rattle.turns.specs.declared.calls.DrainStep.{DrainStep}
 use Rattle.turns.specs.declared.calls.DrainStep.the-variants.{Next, NextBack, Close}
 use Rattle.turns.specs.declared.calls.Single.{Single}
 use Rattle.turns.specs.declared.calls.Single.the-variants.{Editing, Joining, Removing, Fresh, ReadImage, Drain as Opening, Draining}
-
--- a refused answer has its refusal's number
-pub refused-number : (n : ℕ) (x : Refusal) (m : ℕ) (h : Held) → n ≡ numberOf x → refusing n m h ≡ refusing (numberOf x) m h
-refused-number n x m h e = ap (λ (k : ℕ). refusing k m h) e
-
--- an answer of a call that makes a record
-pub made-known : (h : Held) (x k : Made) → x ≡ k → madeAnswer h (ofMade k) ≡ madeAnswer h (ofMade x)
-made-known h x k e = ap (λ (y : Made). madeAnswer h (ofMade y)) (sym e)
 
 -- ---- what a call does by its kind: b are the slots before, b′ those after, p is the answer
 

@@ -2,17 +2,13 @@
 use mathlib.Core.List.{List, []}
 use mathlib.Core.Path.{_≡_, refl, sym, _∙_, ap}
 use Prim.Native.Nat.{ℕ}
-use Rattle.queue.specs.Answers.{numberOf}
-use Rattle.queue.specs.declared.Refusal.{Refusal}
-use Rattle.joins.specs.Answers.{ofJoined, ofSplit}
-use Rattle.joins.specs.declared.Joined.{Joined}
-use Rattle.joins.specs.declared.Split.{Split}
 use Rattle.rules.specs.Drains.{Drain}
 use Rattle.rules.specs.Outcome.{Answer, Held, Outcome, shut, drawn, told}
 use Rattle.rules.specs.Pairs.{Pairing, Paired, toldPairing, doAppend, doSplit}
 use Rattle.rules.specs.Records.{Rec}
 use Rattle.rules.specs.Sequences.{Do, Call, on, appending, splitting, Seen, Queue, sideA, sideB, pairOf, stands, doOne, oneStep, bothStep, noStep, appendStep, splitStep, firstStep, turn, step, toldStep}
-use Rattle.turns.specs.Answers.{oneSeen, bothHeld, bothSeen, noneSeen, seenRound}
+use Rattle.answers.specs.Answers.{bothSeen}
+use Rattle.turns.specs.Answers.{oneSeen, noneSeen, seenRound}
 
 -- two that agree on what is known agree on what it is known of
 both-known : {X Y : Type 0} (f g : X → Y) (x k : X) → x ≡ k → f k ≡ g k → f x ≡ g x
@@ -22,17 +18,6 @@ both-known f g x k e p = ap f e ∙ p ∙ ap g (sym e)
 pub one-told : (q : Queue) (o : Outcome) (p : Seen) (a : Answer) (x : List ℕ) → p ≡ oneSeen a (q .held) → (a, x) ≡ told o → (p, x, q .slots) ≡ toldStep (oneStep q o)
 unfolding oneStep
 one-told q o p a x same e = (λ i. (same i, x, q .slots)) ∙ ap (λ (t : Answer × List ℕ). (oneSeen (t .0) (q .held), t .1, q .slots)) e
-
--- a refused answer has its refusal's number
-pub both-number : (n : ℕ) (x : Refusal) (m : ℕ) (h h′ : Held) → n ≡ numberOf x → bothHeld n m h h′ ≡ bothHeld (numberOf x) m h h′
-both-number n x m h h′ e = ap (λ (k : ℕ). bothHeld k m h h′) e
-
--- an answer of `append`, and of `split_off`
-pub joined-known : (h : Held) (x k : Joined) → x ≡ k → bothSeen h (ofJoined k) ≡ bothSeen h (ofJoined x)
-joined-known h x k e = ap (λ (y : Joined). bothSeen h (ofJoined y)) (sym e)
-
-pub split-told : (h : Held) (x k : Split) → x ≡ k → bothSeen h (ofSplit k) ≡ bothSeen h (ofSplit x)
-split-told h x k e = ap (λ (y : Split). bothSeen h (ofSplit y)) (sym e)
 
 -- a call on both
 both-told : (h′ : Held) (m : Paired) (gone : List ℕ) (p : Seen) (k : Pairing) (x x′ : List ℕ) → p ≡ bothSeen h′ k → (k, x, x′) ≡ toldPairing m

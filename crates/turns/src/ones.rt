@@ -1,32 +1,33 @@
 // A call on one queue.
-use super::answering::Answer;
-use super::answering::Holding;
-use super::answering::of_closed;
-use super::answering::of_drawn;
-use super::answering::of_made;
-use super::answering::of_opened;
-use super::answering::of_reply;
-use super::answering::passed_over;
 use super::calls::DrainStep;
 use super::calls::Edit;
 use super::calls::Join;
 use super::calls::Removal;
 use super::calls::Single;
+use answers::Answer;
 use answers::of_change;
+use answers::of_closed;
+use answers::of_drawn;
 use answers::of_handed;
-use drains::Drain;
+use answers::of_made;
+use answers::of_opened;
+use elements::Given;
+use elements::Handed;
 use queue::Change;
 use queue::Deque;
-use queue::Handed;
+use queue::Drain;
+use queue::State;
 ghost use mathlib.Core.List.{List};
 ghost use mathlib.Core.Path.{_≡_};
 ghost use Prim.Native.Nat.{ℕ};
 ghost use Rattle.rules.specs.Calls.{rule};
 ghost use Rattle.rules.specs.Outcome.{doRule, drawn, shut, told};
 ghost use Rattle.rules.specs.Sequences.{doOne};
-ghost use Rattle.queue.specs.Answers.{ofChange, ofHanded, recOf};
-ghost use Rattle.drains.specs.Answers.{drainOf};
-ghost use Rattle.turns.specs.Answers.{heldOf, ofAnswer};
+ghost use Rattle.queue.specs.Answers.{ofChange, recOf};
+ghost use Rattle.elements.specs.Answers.{ofHanded};
+ghost use Rattle.queue.specs.Drains.{drainOf, heldOf};
+ghost use Rattle.answers.specs.Answers.{ofAnswer};
+ghost use Rattle.turns.specs.Answers.{noAnswer};
 ghost use Rattle.turns.specs.Calls.{editOf, joinOf, removalOf, singleOf};
 
 // Makes a call that hands nothing over.
@@ -73,18 +74,30 @@ fn make_removal(slots: &mut [u32], q: Deque, removal: Removal) -> Handed
     }
 }
 
+// A call that is passed over.
+fn passed_over(holding: State) -> Answer
+    ensures { λ r. ⌜ ofAnswer r ≡ noAnswer (heldOf holding) ⌝ }
+{
+    Answer {
+        refused: 0,
+        moved: 0,
+        state: holding,
+        handed: Given::Nothing,
+    }
+}
+
 // Makes a call on a queue without an open drain; a drain's call is passed over.
 fn on_queue(slots: &mut [u32], q: Deque, call: Single, values: &[u32], bytes: &[u8]) -> Answer
     ensures { λ r. ⌜ (ofAnswer r, now (slots .exit)) ≡ told (doOne (now (slots .entry)) (shut (recOf q)) (singleOf call (now (values .entry)) (now (bytes .entry)))) ⌝ }
 {
     match call {
-        Single::Editing(one) => of_reply(of_change(make_edit(slots, q, one))),
-        Single::Joining(one) => of_reply(of_change(make_join(slots, q, one, values))),
-        Single::Removing(one) => of_reply(of_handed(make_removal(slots, q, one))),
-        Single::Fresh => of_made(Holding::Shut(q), queue::fresh(slots)),
-        Single::ReadImage => of_made(Holding::Shut(q), images::read_image(slots, bytes)),
+        Single::Editing(one) => of_change(make_edit(slots, q, one)),
+        Single::Joining(one) => of_change(make_join(slots, q, one, values)),
+        Single::Removing(one) => of_handed(make_removal(slots, q, one)),
+        Single::Fresh => of_made(State::Shut(q), elements::fresh(slots)),
+        Single::ReadImage => of_made(State::Shut(q), images::read_image(slots, bytes)),
         Single::Drain(start, end) => of_opened(drains::drain(slots, q, start, end)),
-        Single::Draining(one) => passed_over(Holding::Shut(q)),
+        Single::Draining(one) => passed_over(State::Shut(q)),
     }
 }
 
@@ -93,7 +106,7 @@ fn on_drain(slots: &mut [u32], d: Drain, call: Single) -> Answer
     ensures { λ r. ⌜ ((vs bs : List ℕ) → (ofAnswer r, now (slots .exit)) ≡ told (doOne (now (slots .entry)) (drawn (drainOf d)) (singleOf call vs bs))) ⌝ }
 {
     let Single::Draining(step) = call else {
-        return passed_over(Holding::Open(d));
+        return passed_over(State::Draining(d));
     };
     match step {
         DrainStep::Next => of_drawn(drains::drain_next(slots, d)),
@@ -103,17 +116,11 @@ fn on_drain(slots: &mut [u32], d: Drain, call: Single) -> Answer
 }
 
 // Makes a call on one queue, by what is held of it.
-pub fn one(
-    slots: &mut [u32],
-    holding: Holding,
-    call: Single,
-    values: &[u32],
-    bytes: &[u8],
-) -> Answer
+pub fn one(slots: &mut [u32], holding: State, call: Single, values: &[u32], bytes: &[u8]) -> Answer
     ensures { λ r. ⌜ (ofAnswer r, now (slots .exit)) ≡ told (doOne (now (slots .entry)) (heldOf holding) (singleOf call (now (values .entry)) (now (bytes .entry)))) ⌝ }
 {
     match holding {
-        Holding::Shut(q) => on_queue(slots, q, call, values, bytes),
-        Holding::Open(d) => on_drain(slots, d, call),
+        State::Shut(q) => on_queue(slots, q, call, values, bytes),
+        State::Draining(d) => on_drain(slots, d, call),
     }
 }

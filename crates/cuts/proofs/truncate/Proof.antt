@@ -6,22 +6,22 @@ use lib.ListN.{length}
 use Rattle.cuts.proofs.Laws.{all-kept, back-cut}
 use Rattle.queue.proofs.Checks.{passed-zero, told-first}
 use Rattle.queue.specs.Answers.{recOf}
-use Rattle.rules.specs.Refusals.{onQueue}
+use Rattle.rules.specs.Refusals.{onChange}
 use Rattle.cuts.proofs.truncate.Statement.{statement}
 use Rattle.cuts.proofs.truncate.Tie as tie
 
 -- past the first tests nothing is refused
-past : (c : tie.After-enum-told) → onQueue (length (now (c .before .before .before .before .args .slots))) (recOf (c .before .before .before .before .args .q)) 0 ≡ 0
-past c = passed-zero _ _ (c .before .before .check .ensures) (c .enum-told .given .1)
+past : (c : tie.After-enum-told) → onChange (length (now (c .before .before .before .before .args .slots))) (recOf (c .before .before .before .before .args .q)) 0 ≡ 0
+past c = passed-zero _ _ (c .before .before .check-change .ensures) (c .enum-told .given .1)
 
-check-requires : tie.Need-check-requires
-check-requires c κs = search needs
+check-change-requires : tie.Need-check-change-requires
+check-change-requires c κs = search needs
 
 enum-known-refusal : tie.Need-enum-known-refusal
 enum-known-refusal c = search needs
 
 returns : tie.Need-returns
-returns c = told-first _ _ _ (c .before .before .before .check .ensures) _ _ (c .before .refusal .given .1)
+returns c = told-first _ _ _ (c .before .before .before .check-change .ensures) _ _ (c .before .refusal .given .1)
 
 enum-told : tie.Need-enum-told
 enum-told c = search needs
@@ -39,7 +39,7 @@ pub truncate-spec : {M : Type 1} → statement M
 truncate-spec =
     tie.close
     (tie.spec
-    check-requires
+    check-change-requires
     enum-known-refusal
     returns
     enum-told

@@ -11,21 +11,22 @@ use lib.Dec.{eqb}
 use lib.ListN.{length, getElem?}
 use Rattle.ends.specs.Conditional.{onlyIf}
 use Rattle.queue.proofs.Numbers.{some-number}
-use Rattle.queue.specs.Answers.{recOf, ofHanded}
+use Rattle.queue.specs.Answers.{recOf}
+use Rattle.elements.specs.Answers.{ofHanded}
 use Rattle.rules.proofs.Told.{accepts-same, first-refused, accepts, alike}
 use Rattle.rules.specs.Conditions.{Test, meets, passes}
 use Rattle.rules.specs.Ends.{popFront, popFrontIf, popBack, popBackIf}
 use Rattle.rules.specs.Outcome.{told, doRule, shut, Answer}
 use Rattle.rules.specs.Places.{place}
 use Rattle.rules.specs.Records.{held}
-use Rattle.rules.specs.Refusals.{onQueue}
+use Rattle.rules.specs.Refusals.{onChange}
 use Rattle.rules.specs.Rule.{Rule, after}
 use Rattle.rules.specs.Slots.{listOf, read}
 use Rattle.rules.specs.Tests.{whether}
-use Rattle.queue.specs.declared.Deque.{Deque}
-use Rattle.queue.specs.declared.Refusal.{Refusal}
-use Rattle.queue.specs.declared.Handed.{Handed}
-use Rattle.queue.specs.declared.Handed.the-variants.{Number, Nothing, Refused}
+use Rattle.queue.specs.declared.records.Deque.{Deque}
+use Rattle.queue.specs.declared.refusals.Refusal.{Refusal}
+use Rattle.elements.specs.declared.answers.Handed.{Handed}
+use Rattle.elements.specs.declared.answers.Handed.the-variants.{Number, Nothing, Refused}
 
 -- ---- one law for each return of `only_if`
 
@@ -76,13 +77,13 @@ module _ (b : List ℕ) (q : Deque) (t : Test) (R S : Rule) (k : Conditional t R
   met e =
       alike b (recOf q) R S (k .free ∙ sym (k .free-too)) (sym (k .head ∙ rw e)) (sym (k .len ∙ rw e)) (sym (k .moved ∙ rw e)) (sym (k .handed ∙ rw e)) (sym (k .list ∙ rw e))
 
-  unmet : onQueue (length b) (recOf q) 0 ≡ 0 → fits ≡ false → (ofHanded (Nothing q 0), b) ≡ told (doRule b (recOf q) S)
+  unmet : onChange (length b) (recOf q) 0 ≡ 0 → fits ≡ false → (ofHanded (Nothing q 0), b) ≡ told (doRule b (recOf q) S)
   unfolding fits whether
   unmet first e =
       accepts-same b (recOf q) S first (k .free-too) (k .head ∙ rw e) (k .len ∙ rw e) (k .moved ∙ rw e) (k .handed ∙ rw e) (k .list ∙ rw e)
 
   -- refused by the tests of slots and record: both are
-  stopped : (n : ℕ) → onQueue (length b) (recOf q) 0 ≡ suc n → (p : Handed) → Popped p → Decided p
+  stopped : (n : ℕ) → onChange (length b) (recOf q) 0 ≡ suc n → (p : Handed) → Popped p → Decided p
   unfolding onlyIf
   stopped n first = go
     where
@@ -98,13 +99,13 @@ module _ (b : List ℕ) (q : Deque) (t : Test) (R S : Rule) (k : Conditional t R
       go (Refused x q′ m) e = e ∙ sym (refused R) ∙ refused S
 
   -- accepted: the answer has no refusal, and hands over what R does
-  seen : onQueue (length b) (recOf q) 0 ≡ 0 → (p : Handed) → Popped p → (ofHanded p .refused ≡ 0) × (ofHanded p .handed ≡ R .handed (held b (recOf q)))
+  seen : onChange (length b) (recOf q) 0 ≡ 0 → (p : Handed) → Popped p → (ofHanded p .refused ≡ 0) × (ofHanded p .handed ≡ R .handed (held b (recOf q)))
   seen first p e =
       let f = e ∙ sym (accepts b (recOf q) R first (k .free) _ _ _ _ _ _ refl refl refl refl refl refl) in
       (ap (λ (o : Answer × List ℕ). o .0 .refused) f, ap (λ (o : Answer × List ℕ). o .0 .handed) f)
 
   -- and that element decides
-  decided : onQueue (length b) (recOf q) 0 ≡ 0 → (p : Handed) → Popped p → Decided p
+  decided : onChange (length b) (recOf q) 0 ≡ 0 → (p : Handed) → Popped p → Decided p
   unfolding onlyIf passes whether fits
   decided first = go
     where
@@ -117,7 +118,7 @@ module _ (b : List ℕ) (q : Deque) (t : Test) (R S : Rule) (k : Conditional t R
       go (Nothing q′ m) e = unmet first (ap (passes (meets t)) (sym (seen first (Nothing q′ m) e .1)))
       go (Refused x q′ m) e = absurd (some-number x (seen first (Refused x q′ m) e .0))
 
-  only-if : (n : ℕ) → onQueue (length b) (recOf q) 0 ≡ n → (p : Handed) → Popped p → Decided p
+  only-if : (n : ℕ) → onChange (length b) (recOf q) 0 ≡ n → (p : Handed) → Popped p → Decided p
   only-if zero = decided
   only-if (suc n) = stopped n
 

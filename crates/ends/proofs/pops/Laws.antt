@@ -7,7 +7,7 @@ use Prim.Native.Nat.{ℕ, _-_, _<_}
 use native.Mathlib.Omega.{arith}
 use borrow.Author.Tests.{eq-eqb, ne-eqb}
 use lib.ListN.{length, getD}
-use Rattle.queue.proofs.Checks.{fine}
+use Rattle.queue.proofs.Checks.{fine-change}
 use Rattle.rules.proofs.Places.{place-zero}
 use Rattle.rules.proofs.Slots.{listOf-none, handed-at, listOf-drop, lay-own, length-listOf, listOf-take}
 use Rattle.rules.proofs.Told.{accepts-same, accepts}
@@ -15,14 +15,14 @@ use Rattle.rules.specs.Ends.{popFront, popBack}
 use Rattle.rules.specs.Outcome.{shut, told, doRule}
 use Rattle.rules.specs.Places.{place}
 use Rattle.rules.specs.Records.{Rec, held, stepped}
-use Rattle.rules.specs.Refusals.{onQueue}
+use Rattle.rules.specs.Refusals.{onChange}
 use Rattle.rules.specs.Slots.{listOf, lay}
 use Rattle.rules.specs.Tests.{whether}
 
 none-held : (b : List ℕ) (h n : ℕ) → n ≡ 0 → listOf b h n ≡ []
 none-held b h n e = rw e (listOf-none b h)
 
-module _ (b : List ℕ) (r : Rec) (first : onQueue (length b) r 0 ≡ 0) where
+module _ (b : List ℕ) (r : Rec) (first : onChange (length b) r 0 ≡ 0) where
   pub front-none : r .len ≡ 0 → (record { refused = 0; moved = 0; held = shut r; handed = none }, b) ≡ told (doRule b r popFront)
   unfolding popFront held whether
   front-none empty =
@@ -40,7 +40,7 @@ module _ (b : List ℕ) (r : Rec) (first : onQueue (length b) r 0 ≡ 0) where
       → (record { refused = 0; moved = 0; held = shut r′; handed = some v }, b) ≡ told (doRule b r popFront)
   unfolding popFront held whether
   front-popped v i p r′ some-in at-i at-v at-p made =
-      let g = fine b r first .good in
+      let g = fine-change b r first .good in
       let h = r .head in
       let in-ring : h < length b = omega arith in
       accepts b r popFront first refl 0 p (r .len - 1) r′ (some v) b made (at-p ∙ sym (rw (ne-eqb (r .len) 0 some-in))) refl refl
@@ -52,7 +52,7 @@ module _ (b : List ℕ) (r : Rec) (first : onQueue (length b) r 0 ≡ 0) where
       → (record { refused = 0; moved = 0; held = shut r′; handed = some v }, b) ≡ told (doRule b r popBack)
   unfolding popBack held
   back-popped v p r′ some-in at-p at-v made =
-      let g = fine b r first .good in
+      let g = fine-change b r first .good in
       let h = r .head in
       let in-ring : h < length b = omega arith in
       accepts b r popBack first refl 0 h (r .len - 1) r′ (some v) b made refl refl refl

@@ -6,19 +6,19 @@ use borrow.Author.Needs.{needs}
 use denote.Ref.{now}
 use lib.ListN.{length, length-set}
 use Rattle.swaps.proofs.Laws.{one-past, other-past, not-swapped, swapped}
-use Rattle.queue.proofs.Checks.{passed-zero, Fine, fine, told-first}
+use Rattle.queue.proofs.Checks.{passed-zero, Fine, fine-change, told-first}
 use Rattle.queue.specs.Answers.{recOf}
 use Rattle.rules.proofs.Places.{place-low}
-use Rattle.rules.specs.Refusals.{onQueue}
+use Rattle.rules.specs.Refusals.{onChange}
 use Rattle.swaps.proofs.swap.Statement.{statement}
 use Rattle.swaps.proofs.swap.Tie as tie
 
 -- past the first tests nothing is refused
-past : (c : tie.After-enum-told) → onQueue (length (now (c .before .before .before .before .args .slots))) (recOf (c .before .before .before .before .args .q)) 0 ≡ 0
-past c = passed-zero _ _ (c .before .before .check .ensures) (c .enum-told .given .1)
+past : (c : tie.After-enum-told) → onChange (length (now (c .before .before .before .before .args .slots))) (recOf (c .before .before .before .before .args .q)) 0 ≡ 0
+past c = passed-zero _ _ (c .before .before .check-change .ensures) (c .enum-told .given .1)
 
 ok : (c : tie.After-enum-told) → Fine (now (c .before .before .before .before .args .slots)) (recOf (c .before .before .before .before .args .q))
-ok c = fine _ _ (past c)
+ok c = fine-change _ _ (past c)
 
 -- the slots of elements i and j
 one : (c : tie.After-wrap-add) → c .wrap-add .result .0 < length (now (c .before .before .before .before .before .before .before .before .before .before .args .slots))
@@ -40,14 +40,14 @@ kept c = rw length-set at (ap length (c .before .before .before .fill .ensures .
 slot : (c : tie.After-as-index) → c .as-index .result < length (c .before .before .before .fill .last .0)
 slot c = omega (arith, c .as-index .ensures, other (c .before .before .before .before .before), kept c)
 
-check-requires : tie.Need-check-requires
-check-requires c κs = search needs
+check-change-requires : tie.Need-check-change-requires
+check-change-requires c κs = search needs
 
 enum-known-refusal : tie.Need-enum-known-refusal
 enum-known-refusal c = search needs
 
 returns : tie.Need-returns
-returns c = told-first _ _ _ (c .before .before .before .check .ensures) _ _ (c .before .refusal .given .1)
+returns c = told-first _ _ _ (c .before .before .before .check-change .ensures) _ _ (c .before .refusal .given .1)
 
 enum-told : tie.Need-enum-told
 enum-told c = search needs
@@ -89,7 +89,7 @@ pub swap-spec : {M : Type 1} → statement M
 swap-spec =
     tie.close
     (tie.spec
-    check-requires
+    check-change-requires
     enum-known-refusal
     returns
     enum-told

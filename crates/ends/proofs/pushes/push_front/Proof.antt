@@ -6,19 +6,19 @@ use borrow.Author.Needs.{needs}
 use denote.Ref.{now}
 use lib.ListN.{length}
 use Rattle.ends.proofs.pushes.Laws.{front-full, front-pushed}
-use Rattle.queue.proofs.Checks.{passed-zero, Fine, fine, told-first}
+use Rattle.queue.proofs.Checks.{passed-zero, Fine, fine-change, told-first}
 use Rattle.queue.specs.Answers.{recOf}
 use Rattle.rules.proofs.Places.{place-low}
-use Rattle.rules.specs.Refusals.{onQueue}
+use Rattle.rules.specs.Refusals.{onChange}
 use Rattle.ends.proofs.pushes.push_front.Statement.{statement}
 use Rattle.ends.proofs.pushes.push_front.Tie as tie
 
 -- past the first tests nothing is refused
-past : (c : tie.After-enum-told) → onQueue (length (now (c .before .before .before .before .args .slots))) (recOf (c .before .before .before .before .args .q)) 0 ≡ 0
-past c = passed-zero _ _ (c .before .before .check .ensures) (c .enum-told .given .1)
+past : (c : tie.After-enum-told) → onChange (length (now (c .before .before .before .before .args .slots))) (recOf (c .before .before .before .before .args .q)) 0 ≡ 0
+past c = passed-zero _ _ (c .before .before .check-change .ensures) (c .enum-told .given .1)
 
 ok : (c : tie.After-enum-told) → Fine (now (c .before .before .before .before .args .slots)) (recOf (c .before .before .before .before .args .q))
-ok c = fine _ _ (past c)
+ok c = fine-change _ _ (past c)
 
 -- the slot that is stored to
 slot : (c : tie.After-as-index) → c .as-index .result < length (now (c .before .before .before .before .before .before .before .before .args .slots))
@@ -27,14 +27,14 @@ slot c =
     let g = ok (c .before .before .before .before) .good in
     omega (arith, c .as-index .ensures, c .before .wrap-sub .ensures, place-low (length (now (a .slots))) (a .q .head .0) (omega arith) (length (now (a .slots)) - 1) (omega arith))
 
-check-requires : tie.Need-check-requires
-check-requires c κs = search needs
+check-change-requires : tie.Need-check-change-requires
+check-change-requires c κs = search needs
 
 enum-known-refusal : tie.Need-enum-known-refusal
 enum-known-refusal c = search needs
 
 returns : tie.Need-returns
-returns c = told-first _ _ _ (c .before .before .before .check .ensures) _ _ (c .before .refusal .given .1)
+returns c = told-first _ _ _ (c .before .before .before .check-change .ensures) _ _ (c .before .refusal .given .1)
 
 enum-told : tie.Need-enum-told
 enum-told c = search needs
@@ -70,7 +70,7 @@ pub push-front-spec : {M : Type 1} → statement M
 push-front-spec =
     tie.close
     (tie.spec
-    check-requires
+    check-change-requires
     enum-known-refusal
     returns
     enum-told

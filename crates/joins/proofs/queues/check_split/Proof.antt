@@ -6,23 +6,23 @@ use Rattle.extends.proofs.Asks.{queue-refuses, queue-passes, slots-refuse, slot
 use Rattle.queue.proofs.Checks.{passed-zero}
 use Rattle.queue.specs.Answers.{recOf}
 use Rattle.rules.specs.Pairs.{onSplitting}
-use Rattle.rules.specs.Refusals.{onQueue}
+use Rattle.rules.specs.Refusals.{onChange}
 use Rattle.joins.proofs.queues.check_split.Statement.{statement}
 use Rattle.joins.proofs.queues.check_split.Tie as tie
 
 -- past our queue's tests nothing is refused
-past : (c : tie.After-enum-told) → onQueue (c .before .before .before .args .cap) (recOf (c .before .before .before .args .q)) 0 ≡ 0
-past c = passed-zero _ _ (c .before .before .check .ensures) (c .enum-told .given .1)
+past : (c : tie.After-enum-told) → onChange (c .before .before .before .args .cap) (recOf (c .before .before .before .args .q)) 0 ≡ 0
+past c = passed-zero _ _ (c .before .before .check-change .ensures) (c .enum-told .given .1)
 
-check-requires : tie.Need-check-requires
-check-requires c κs = search needs
+check-change-requires : tie.Need-check-change-requires
+check-change-requires c κs = search needs
 
 enum-known-refusal : tie.Need-enum-known-refusal
 enum-known-refusal c = search needs
 
 returns : tie.Need-returns
 unfolding onSplitting
-returns c = queue-refuses _ _ _ _ _ (c .before .before .before .check .ensures) (c .before .refusal .given .1)
+returns c = queue-refuses _ _ _ _ _ (c .before .before .before .check-change .ensures) (c .before .refusal .given .1)
 
 enum-told : tie.Need-enum-told
 enum-told c = search needs
@@ -50,7 +50,7 @@ pub check-split-spec : {M : Type 1} → statement M
 check-split-spec =
     tie.close
     (tie.spec
-    check-requires
+    check-change-requires
     enum-known-refusal
     returns
     enum-told

@@ -5,7 +5,7 @@ use native.Mathlib.Omega.{arith}
 use borrow.Author.Needs.{needs}
 use denote.Ref.{now}
 use Rattle.joins.proofs.Copied.{first-in-slots, later-held, later-straight}
-use Rattle.queue.proofs.Checks.{fine}
+use Rattle.queue.proofs.Checks.{fine-change}
 use Rattle.queue.specs.Answers.{recOf}
 use Rattle.rules.specs.Slots.{lay, listOf}
 use Rattle.joins.proofs.queues.copy_later.Statement.{statement}
@@ -17,7 +17,7 @@ sub-n c = search needs
 wrap-add-requires : tie.Need-wrap-add-requires
 wrap-add-requires c κs =
     let st = c .before .before .before .before in
-    let g = fine (now (st .args .from)) (recOf (st .args .q)) (st .pre .0) in
+    let g = fine-change (now (st .args .from)) (recOf (st .args .q)) (st .pre .0) in
     let k = g .good in
     omega arith
 
@@ -52,7 +52,7 @@ copy-runs-apart-requires : tie.Need-copy-runs-apart-requires
 copy-runs-apart-requires c κs =
     let st = c .before .before .before .before .before .before .before .before in
     let low = first-in-slots (now (st .args .from)) (recOf (st .args .q)) (st .args .start) (st .pre .0) (st .pre .1 .0) in
-    let g = fine (now (st .args .from)) (recOf (st .args .q)) (st .pre .0) in
+    let g = fine-change (now (st .args .from)) (recOf (st .args .q)) (st .pre .0) in
     let k = g .good in
     ((omega arith, omega arith, omega arith), (st .pre .1 .2, st .pre .1 .1, st .pre .1 .3))
 

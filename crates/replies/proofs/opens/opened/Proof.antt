@@ -3,7 +3,7 @@ use mathlib.Core.Path.{refl}
 use Rattle.rules.specs.Tests.{unless}
 use Rattle.replies.proofs.Arms.{arm-two, stays}
 use Rattle.replies.specs.InC.{answerInC}
-use Rattle.drains.specs.Answers.{ofOpened}
+use Rattle.queue.specs.Drains.{ofOpened}
 use borrow.Author.Needs.{needs}
 use Rattle.replies.proofs.opens.opened.Statement.{statement}
 use Rattle.replies.proofs.opens.opened.Tie as tie

@@ -1,5 +1,5 @@
 -- `turns::ones::on_queue` meets its contract. Assumes nothing.
-use mathlib.Core.Path.{refl, _∙_}
+use mathlib.Core.Path.{refl}
 use Rattle.turns.proofs.Known.{single-known}
 use Rattle.turns.proofs.Singles.{by-rule, by-fresh, by-image, by-opening, none-open}
 use borrow.Author.Needs.{needs}
@@ -15,9 +15,6 @@ make-edit-requires c κs = search needs
 of-change-requires : tie.Need-of-change-requires
 of-change-requires c κs = search needs
 
-of-reply-requires : tie.Need-of-reply-requires
-of-reply-requires c κs = search needs
-
 enum-known-call-2 : tie.Need-enum-known-call-2
 enum-known-call-2 c = search needs
 
@@ -27,9 +24,6 @@ make-join-requires c κs = search needs
 of-change-requires-2 : tie.Need-of-change-requires-2
 of-change-requires-2 c κs = search needs
 
-of-reply-requires-2 : tie.Need-of-reply-requires-2
-of-reply-requires-2 c κs = search needs
-
 enum-known-call-3 : tie.Need-enum-known-call-3
 enum-known-call-3 c = search needs
 
@@ -38,9 +32,6 @@ make-removal-requires c κs = search needs
 
 of-handed-requires : tie.Need-of-handed-requires
 of-handed-requires c κs = search needs
-
-of-reply-requires-3 : tie.Need-of-reply-requires-3
-of-reply-requires-3 c κs = search needs
 
 enum-told : tie.Need-enum-told
 enum-told c = search needs
@@ -79,19 +70,19 @@ same-length : tie.Need-same-length
 same-length c = search needs
 
 returns : tie.Need-returns
-returns c = single-known _ _ _ _ _ _ _ _ _ (c .before .before .before .before .before .before .before .call .given .1) (c .of-reply .ensures ∙ c .before .of-change .ensures) (by-rule _ _ _ _ _ (c .before .before .before .before .make-edit .ensures))
+returns c = single-known _ _ _ _ _ _ _ _ _ (c .before .before .before .before .before .before .call .given .1) (c .of-change .ensures) (by-rule _ _ _ _ _ (c .before .before .before .make-edit .ensures))
 
 same-length-2 : tie.Need-same-length-2
 same-length-2 c = search needs
 
 returns-2 : tie.Need-returns-2
-returns-2 c = single-known _ _ _ _ _ _ _ _ _ (c .before .before .before .before .before .before .before .call2 .given .1) (c .of-reply2 .ensures ∙ c .before .of-change2 .ensures) (by-rule _ _ _ _ _ (c .before .before .before .before .make-join .ensures))
+returns-2 c = single-known _ _ _ _ _ _ _ _ _ (c .before .before .before .before .before .before .call2 .given .1) (c .of-change2 .ensures) (by-rule _ _ _ _ _ (c .before .before .before .make-join .ensures))
 
 same-length-3 : tie.Need-same-length-3
 same-length-3 c = search needs
 
 returns-3 : tie.Need-returns-3
-returns-3 c = single-known _ _ _ _ _ _ _ _ _ (c .before .before .before .before .before .before .before .call3 .given .1) (c .of-reply3 .ensures ∙ c .before .of-handed .ensures) (by-rule _ _ _ _ _ (c .before .before .before .before .make-removal .ensures))
+returns-3 c = single-known _ _ _ _ _ _ _ _ _ (c .before .before .before .before .before .before .call3 .given .1) (c .of-handed .ensures) (by-rule _ _ _ _ _ (c .before .before .before .make-removal .ensures))
 
 same-length-4 : tie.Need-same-length-4
 same-length-4 c = search needs
@@ -121,15 +112,12 @@ on-queue-spec =
     enum-known-call
     make-edit-requires
     of-change-requires
-    of-reply-requires
     enum-known-call-2
     make-join-requires
     of-change-requires-2
-    of-reply-requires-2
     enum-known-call-3
     make-removal-requires
     of-handed-requires
-    of-reply-requires-3
     enum-told
     fresh-requires
     of-made-requires

@@ -1,6 +1,6 @@
 -- `turns::pairs::append` meets its contract. Assumes nothing.
 use mathlib.Core.Path.{ap}
-use Rattle.turns.specs.Answers.{heldOf}
+use Rattle.queue.specs.Drains.{heldOf}
 use Rattle.turns.proofs.Known.{append-known}
 use Rattle.turns.proofs.Steps.{append-shut, append-open, append-other-open}
 use borrow.Author.Needs.{needs}

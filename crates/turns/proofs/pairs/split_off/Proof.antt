@@ -1,6 +1,6 @@
 -- `turns::pairs::split_off` meets its contract. Assumes nothing.
 use mathlib.Core.Path.{ap}
-use Rattle.turns.specs.Answers.{heldOf}
+use Rattle.queue.specs.Drains.{heldOf}
 use Rattle.turns.proofs.Known.{split-known}
 use Rattle.turns.proofs.Steps.{split-shut, split-open, split-other-open}
 use borrow.Author.Needs.{needs}
