@@ -22,8 +22,8 @@ static bool holds(const uint32_t *slots, size_t cap, deque q, const uint32_t *nu
 {
     if (q.len != n) return false;
     for (size_t i = 0; i < n; i++) {
-        struct scorebucket_seen_reply s = scorebucket_get(slots, cap, q, i);
-        if (s.refused || !s.seen || s.number != numbers[i]) return false;
+        struct scorebucket_found_reply s = scorebucket_get(slots, cap, &q, i);
+        if (s.refused || !s.found || s.number != numbers[i]) return false;
     }
     return true;
 }
@@ -60,8 +60,8 @@ static void test_ends(void)
     EXPECT(r.handed == 1 && r.number == 5);
     r = scorebucket_pop_back(s, 6, &q);
     EXPECT(r.handed == 1 && r.number == 50 && HOLDS(s, q, 10, 20, 30, 40));
-    EXPECT(scorebucket_front(s, 6, q).number == 10 && scorebucket_back(s, 6, q).number == 40);
-    EXPECT(scorebucket_get(s, 6, q, 4).seen == 0 && scorebucket_get(s, 6, q, 4).refused == 0);
+    EXPECT(scorebucket_front(s, 6, &q).number == 10 && scorebucket_back(s, 6, &q).number == 40);
+    EXPECT(scorebucket_get(s, 6, &q, 4).found == 0 && scorebucket_get(s, 6, &q, 4).refused == 0);
     EXPECT(scorebucket_pop_front_if(s, 6, &q, SCOREBUCKET_BELOW, 10).handed == 0 && same(q, 4, 4));
     EXPECT(scorebucket_pop_front_if(s, 6, &q, SCOREBUCKET_AT_LEAST, 10).number == 10);
     EXPECT(scorebucket_pop_back_if(s, 6, &q, SCOREBUCKET_NOT_EQUAL, 40).handed == 0);
@@ -148,21 +148,22 @@ static void test_looks(void)
     uint32_t s[6], t[6];
     deque q = wrapped(s), other = wrapped(t);
     struct scorebucket_runs g = {{9, 9}, {9, 9}};
-    EXPECT(scorebucket_slice_ranges(s, 6, q, 1, 5, &g) == SCOREBUCKET_POSITION && g.front.start == 9 && g.back.end == 9);
-    EXPECT(scorebucket_slice_ranges(s, 6, q, 1, 4, &g) == 0);
+    EXPECT(scorebucket_slice_ranges(s, 6, &q, 1, 5, &g) == SCOREBUCKET_POSITION);
+    EXPECT(g.front.start == 9 && g.back.end == 9);
+    EXPECT(scorebucket_slice_ranges(s, 6, &q, 1, 4, &g) == 0);
     EXPECT(g.front.start == 5 && g.front.end == 6 && g.back.start == 0 && g.back.end == 2);
-    EXPECT(scorebucket_contains(s, 6, q, 30).is && !scorebucket_contains(s, 6, q, 7).is);
+    EXPECT(scorebucket_contains(s, 6, &q, 30).is && !scorebucket_contains(s, 6, &q, 7).is);
     EXPECT(scorebucket_eq(s, 6, &q, t, 6, &other).is && scorebucket_eq(s, 6, &q, s, 6, &q).is);
     EXPECT(scorebucket_cmp(s, 6, &q, t, 6, &other).order == SCOREBUCKET_SAME);
     scorebucket_pop_front(t, 6, &other);
     EXPECT(!scorebucket_eq(s, 6, &q, t, 6, &other).is);
     EXPECT(scorebucket_cmp(s, 6, &q, t, 6, &other).order == SCOREBUCKET_LESS && scorebucket_cmp(t, 6, &other, s, 6, &q).order == SCOREBUCKET_GREATER);
-    struct scorebucket_search_reply f = scorebucket_binary_search(s, 6, q, 30);
+    struct scorebucket_search_reply f = scorebucket_binary_search(s, 6, &q, 30);
     EXPECT(f.refused == 0 && f.found == 1 && f.position == 2);
-    f = scorebucket_binary_search(s, 6, q, 31);
+    f = scorebucket_binary_search(s, 6, &q, 31);
     EXPECT(f.refused == 0 && f.found == 0 && f.position == 3);
-    EXPECT(scorebucket_partition_point(s, 6, q, SCOREBUCKET_BELOW, 30).count == 2);
-    EXPECT(scorebucket_partition_point(s, 6, q, 0, 30).refused == SCOREBUCKET_POSITION);
+    EXPECT(scorebucket_partition_point(s, 6, &q, SCOREBUCKET_BELOW, 30).count == 2);
+    EXPECT(scorebucket_partition_point(s, 6, &q, 0, 30).refused == SCOREBUCKET_POSITION);
 }
 
 static void test_walks(void)
@@ -171,16 +172,16 @@ static void test_walks(void)
     deque q = wrapped(s), bad = {.head = 6, .len = 0};
     struct scorebucket_walk w;
     EXPECT(scorebucket_begin_walk(s, 6, &q, &w) == 0 && same(w.queue, 4, 4) && w.low == 0 && w.high == 4);
-    struct scorebucket_seen_reply r = scorebucket_walk_next(s, 6, &w);
-    EXPECT(r.seen == 1 && r.number == 10 && w.low == 1);
+    struct scorebucket_found_reply r = scorebucket_walk_next(s, 6, &w);
+    EXPECT(r.found == 1 && r.number == 10 && w.low == 1);
     r = scorebucket_walk_next_back(s, 6, &w);
-    EXPECT(r.seen == 1 && r.number == 40 && w.high == 3);
+    EXPECT(r.found == 1 && r.number == 40 && w.high == 3);
     EXPECT(scorebucket_begin_walk(s, 6, &bad, &w) == SCOREBUCKET_RECORD && same(w.queue, 4, 4) && w.low == 1 && w.high == 3);
     w.low = 4;
     EXPECT(scorebucket_walk_next(s, 6, &w).refused == SCOREBUCKET_RECORD && w.low == 4);
     w.low = 3;
     r = scorebucket_walk_next(s, 6, &w);
-    EXPECT(r.refused == 0 && r.seen == 0 && r.number == 0 && w.low == 3);
+    EXPECT(r.refused == 0 && r.found == 0 && r.number == 0 && w.low == 3);
 }
 
 static void test_images(void)
@@ -188,8 +189,8 @@ static void test_images(void)
     uint32_t s[6], t[4] = {0};
     uint8_t bytes[19];
     deque q = wrapped(s), m = {.head = 1, .len = 1};
-    EXPECT(scorebucket_write_image(s, 6, q, bytes, 18).refused == SCOREBUCKET_ROOM);
-    EXPECT(scorebucket_write_image(s, 6, q, bytes, 19).count == 19);
+    EXPECT(scorebucket_write_image(s, 6, &q, bytes, 18).refused == SCOREBUCKET_ROOM);
+    EXPECT(scorebucket_write_image(s, 6, &q, bytes, 19).count == 19);
     EXPECT(scorebucket_read_image(t, 3, &m, bytes, 19).refused == SCOREBUCKET_ROOM && same(m, 1, 1));
     EXPECT(scorebucket_read_image(t, 4, &m, bytes, 18).refused == SCOREBUCKET_IMAGE && same(m, 1, 1));
     EXPECT(scorebucket_read_image(t, 4, &m, bytes, 19).refused == 0 && m.head == 0 && HOLDS(t, m, 10, 20, 30, 40));
@@ -219,7 +220,7 @@ static void test_refusals(void)
     struct scorebucket_reply r = scorebucket_push_back(s, 6, &bad, 1);
     EXPECT(r.refused == SCOREBUCKET_RECORD && same(bad, 6, 4) && r.moved == 0 && r.handed == 0 && r.number == 0);
     EXPECT(scorebucket_retain(s, 6, &bad, 9, 1).refused == SCOREBUCKET_RECORD && same(bad, 6, 4));
-    EXPECT(scorebucket_contains(s, 6, bad, 1).refused == SCOREBUCKET_RECORD);
+    EXPECT(scorebucket_contains(s, 6, &bad, 1).refused == SCOREBUCKET_RECORD);
     EXPECT(memcmp(as_before, s, sizeof s) == 0);
     bad.head = 0;
     EXPECT(scorebucket_push_back(many, 16001, &bad, 1).refused == SCOREBUCKET_SLOTS && many[4] == 0 && same(bad, 0, 4));

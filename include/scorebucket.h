@@ -1,20 +1,22 @@
 /* Scorebucket: a double-ended queue of uint32_t in slots that the caller lends.
  *
- * Link with the archive that `sh tools/native.sh . exports` makes, or on x86-64 `rt staticlib exports`. Every function is proved
- * to do what the queue's rules say (crates/exports/src holds the contracts), for any record and any numbers: a record that is not good,
- * a position past the end or a queue without room is refused, and never read or written past the slots.
+ * Link with the archive that `sh tools/native.sh . exports` makes. Every function is proved to do what the queue's rules
+ * say (the src folders of crates/exports, exports_joins and exports_looks hold the contracts), for any record and any
+ * numbers: a record that is not good, a position past the end or a queue without room is refused, and never read or
+ * written past the slots.
  *
  * Memory: the slots are the caller's, and so is every other pointer. Nothing is allocated, freed or kept: a call uses its pointers until it returns.
- * The number of slots is the capacity, at most 16,000. A queue is its slots and a small record {head, len}: a call that changes it takes the record's address
- * and changes it there, a call that only looks takes it by value, but for `eq` and `cmp`, which take the addresses of two. Calls on different slots and records may run at the same time.
+ * The number of slots is the capacity, at most 16,000. A queue is its slots and a small record {head, len}: every call
+ * takes the record's address, and a call that changes the queue changes it there. Calls on different slots and records may
+ * run at the same time.
  *
  * What a caller must see to, since no call can test it:
  *   - a pointer is not null (with length 0 it may point anywhere else), aligned for what it points to, and its length is no more than what stands there;
  *   - what is written by a call (a pointer without `const`) overlaps nothing else that is lent to the same call. Two `const` pointers may overlap;
  *   - while a drain is open, its queue's slots are used by that drain's calls alone, and the queue's record by none; a drain is closed once.
  *
- * Answers: `refused` is 0, or the number of a refusal; refused, slots and records are as they were, and all else is 0. An answer has two words at most, and comes
- * back in registers.
+ * Answers: `refused` is 0, or the number of a refusal; refused, no slot and no word of a record is stored, and all else
+ * is 0. An answer has two words at most, and comes back in registers.
  * `moved` says how many elements now stand in another slot. `handed` is 1 where `number` was handed over; where there was nothing, both are 0. */
 #ifndef SCOREBUCKET_H
 #define SCOREBUCKET_H
@@ -71,32 +73,33 @@ struct scorebucket_reply {
     size_t moved;
 };
 
-/* Of a look at one element: `seen` is 1 where `number` stands there, else both are 0. */
-struct scorebucket_seen_reply {
-    size_t refused;
-    uint32_t seen, number;
+/* Of a look at one element, or a walk's step: `found` is 1 where `number` stands there, else both are 0. */
+struct scorebucket_found_reply {
+    uint16_t refused, found;
+    uint32_t number;
 };
 
 /* Of a yes-or-no question. */
 struct scorebucket_truth_reply {
-    size_t refused;
+    uint16_t refused;
     bool is;
 };
 
 /* Of `cmp`: a value of enum scorebucket_order. */
 struct scorebucket_order_reply {
-    size_t refused, order;
+    uint16_t refused, order;
 };
 
 /* Of a search: `found` is 1 and `position` is where it stands, or 0 and where to insert it. */
 struct scorebucket_search_reply {
-    uint32_t refused, found;
+    uint16_t refused, found;
     size_t position;
 };
 
 /* A number of elements or of bytes. */
 struct scorebucket_count_reply {
-    size_t refused, count;
+    uint16_t refused;
+    size_t count;
 };
 
 /* The two runs of a range. */
@@ -124,11 +127,12 @@ struct scorebucket_reply scorebucket_pop_front_if(const uint32_t *slots, size_t 
 /* Hands the last element over, if it meets the test. Refusal: 3, for an unknown kind. */
 struct scorebucket_reply scorebucket_pop_back_if(const uint32_t *slots, size_t cap, struct scorebucket_deque *q, uint32_t kind, uint32_t k);
 /* Looks at the element at position i. */
-struct scorebucket_seen_reply scorebucket_get(const uint32_t *slots, size_t cap, struct scorebucket_deque q, size_t i);
+struct scorebucket_found_reply scorebucket_get(const uint32_t *slots, size_t cap, const struct scorebucket_deque *q,
+    size_t i);
 /* Looks at the first element. */
-struct scorebucket_seen_reply scorebucket_front(const uint32_t *slots, size_t cap, struct scorebucket_deque q);
+struct scorebucket_found_reply scorebucket_front(const uint32_t *slots, size_t cap, const struct scorebucket_deque *q);
 /* Looks at the last element. */
-struct scorebucket_seen_reply scorebucket_back(const uint32_t *slots, size_t cap, struct scorebucket_deque q);
+struct scorebucket_found_reply scorebucket_back(const uint32_t *slots, size_t cap, const struct scorebucket_deque *q);
 /* Keeps the first n elements. */
 struct scorebucket_reply scorebucket_truncate(const uint32_t *slots, size_t cap, struct scorebucket_deque *q, size_t n);
 /* Keeps the last n elements. */
@@ -185,38 +189,45 @@ struct scorebucket_reply scorebucket_splice(uint32_t *slots, size_t cap, struct 
 /* ---- runs and walks */
 
 /* Stores the two runs of positions start..end: the elements of `front`, then those of `back`, as parts of the slots. Gives the refusal number, or 0; refused, `runs` is as it was. Refusal: 3. */
-size_t scorebucket_slice_ranges(const uint32_t *slots, size_t cap, struct scorebucket_deque q, size_t start, size_t end, struct scorebucket_runs *runs);
+uint16_t scorebucket_slice_ranges(const uint32_t *slots, size_t cap, const struct scorebucket_deque *q, size_t start,
+    size_t end, struct scorebucket_runs *runs);
 /* Begins a walk over the whole list. Gives the refusal number, or 0. */
-size_t scorebucket_begin_walk(const uint32_t *slots, size_t cap, const struct scorebucket_deque *q, struct scorebucket_walk *w);
+uint16_t scorebucket_begin_walk(const uint32_t *slots, size_t cap, const struct scorebucket_deque *q,
+    struct scorebucket_walk *w);
 /* Gives the element at the walk's low end, which steps on by one. */
-struct scorebucket_seen_reply scorebucket_walk_next(const uint32_t *slots, size_t cap, struct scorebucket_walk *w);
+struct scorebucket_found_reply scorebucket_walk_next(const uint32_t *slots, size_t cap, struct scorebucket_walk *w);
 /* Gives the element before the walk's high end, which steps back by one. */
-struct scorebucket_seen_reply scorebucket_walk_next_back(const uint32_t *slots, size_t cap, struct scorebucket_walk *w);
+struct scorebucket_found_reply scorebucket_walk_next_back(const uint32_t *slots, size_t cap,
+    struct scorebucket_walk *w);
 
 /* ---- comparing and searching */
 
 /* Says whether x stands in the queue. */
-struct scorebucket_truth_reply scorebucket_contains(const uint32_t *slots, size_t cap, struct scorebucket_deque q, uint32_t x);
+struct scorebucket_truth_reply scorebucket_contains(const uint32_t *slots, size_t cap,
+    const struct scorebucket_deque *q, uint32_t x);
 /* Says whether the two queues hold the same list. Refusals: the other's 1 and 2, too. */
 struct scorebucket_truth_reply scorebucket_eq(const uint32_t *slots, size_t cap, const struct scorebucket_deque *q, const uint32_t *other_slots, size_t other_cap, const struct scorebucket_deque *other);
 /* Says how the queue's list stands to the other's in lexicographic order. Refusals: the other's 1 and 2, too. */
 struct scorebucket_order_reply scorebucket_cmp(const uint32_t *slots, size_t cap, const struct scorebucket_deque *q, const uint32_t *other_slots, size_t other_cap, const struct scorebucket_deque *other);
 /* Searches a sorted queue for x by halving. */
-struct scorebucket_search_reply scorebucket_binary_search(const uint32_t *slots, size_t cap, struct scorebucket_deque q, uint32_t x);
+struct scorebucket_search_reply scorebucket_binary_search(const uint32_t *slots, size_t cap,
+    const struct scorebucket_deque *q, uint32_t x);
 /* Counts the elements that meet the test in a queue in which all of them stand before all others. Refusal: 3, for an unknown kind. */
-struct scorebucket_count_reply scorebucket_partition_point(const uint32_t *slots, size_t cap, struct scorebucket_deque q, uint32_t kind, uint32_t k);
+struct scorebucket_count_reply scorebucket_partition_point(const uint32_t *slots, size_t cap,
+    const struct scorebucket_deque *q, uint32_t kind, uint32_t k);
 
 /* ---- saved images */
 
 /* Writes the queue's image, 3 + 4 * len bytes, to the start of the target, and gives their number. Refusal: 4. */
-struct scorebucket_count_reply scorebucket_write_image(const uint32_t *slots, size_t cap, struct scorebucket_deque q, uint8_t *target, size_t n);
+struct scorebucket_count_reply scorebucket_write_image(const uint32_t *slots, size_t cap,
+    const struct scorebucket_deque *q, uint8_t *target, size_t n);
 /* Makes a queue from an image, in bare slots. Refusals: 1, 5, 4. */
 struct scorebucket_reply scorebucket_read_image(uint32_t *slots, size_t cap, struct scorebucket_deque *q, const uint8_t *bytes, size_t n);
 
 /* ---- for benchmarks */
 
 /* Copies the n slots from src on to dst, which may overlap, so many times over, and does nothing else. Gives 0, or refusal 1, or 3 where one of the stretches is out of the slots. */
-size_t scorebucket_copy(uint32_t *slots, size_t cap, size_t src, size_t dst, size_t n, size_t times);
+uint16_t scorebucket_copy(uint32_t *slots, size_t cap, size_t src, size_t dst, size_t n, size_t times);
 
 #ifdef __cplusplus
 }

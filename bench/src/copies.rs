@@ -3,7 +3,7 @@ use crate::timing;
 use std::hint::black_box;
 
 unsafe extern "C" {
-    fn scorebucket_copy(slots: *mut u32, slots_len: usize, src: usize, dst: usize, n: usize, times: usize) -> usize;
+    fn scorebucket_copy(slots: *mut u32, slots_len: usize, src: usize, dst: usize, n: usize, times: usize) -> u16;
 }
 
 /// The proved copy of `n` slots from `src` to `dst`, so many times over.

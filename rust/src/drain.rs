@@ -17,7 +17,7 @@ impl<'q, 'a> Drain<'q, 'a> {
         end: usize,
     ) -> Result<Drain<'q, 'a>, Refusal> {
         let reply = raw::drain(queue.slots, &queue.record, start, end, &mut queue.drain);
-        Refusal::of(reply.refused.into())?;
+        Refusal::of(reply.refused)?;
         Ok(Drain { queue })
     }
 }

@@ -10,16 +10,16 @@ pub struct Iter<'s> {
 }
 
 impl<'s> Iter<'s> {
-    pub(crate) fn begin(slots: &'s [u32], record: Record) -> Result<Iter<'s>, Refusal> {
+    pub(crate) fn begin(slots: &'s [u32], record: &Record) -> Result<Iter<'s>, Refusal> {
         let mut walk = raw::Walk::default();
-        Refusal::of(raw::begin_walk(slots, &record, &mut walk))?;
+        Refusal::of(raw::begin_walk(slots, record, &mut walk))?;
         Ok(Iter { slots, walk })
     }
 }
 
 /// What a step gave. No step is refused: the walk was begun over these slots.
-fn given(reply: raw::SeenReply) -> Option<u32> {
-    (reply.seen == 1).then_some(reply.number)
+fn given(reply: raw::FoundReply) -> Option<u32> {
+    (reply.found == 1).then_some(reply.number)
 }
 
 impl Iterator for Iter<'_> {

@@ -4,35 +4,35 @@ use crate::{Iter, Queue, Refusal, Test};
 use std::cmp::Ordering;
 use std::ops::RangeBounds;
 
-/// What a look at one element saw.
-fn seen(reply: raw::SeenReply) -> Result<Option<u32>, Refusal> {
+/// What a look at one element found.
+fn found(reply: raw::FoundReply) -> Result<Option<u32>, Refusal> {
     Refusal::of(reply.refused)?;
-    Ok((reply.seen == 1).then_some(reply.number))
+    Ok((reply.found == 1).then_some(reply.number))
 }
 
 impl Queue<'_> {
     /// The element at position i.
     #[inline]
     pub fn get(&self, i: usize) -> Result<Option<u32>, Refusal> {
-        seen(raw::get(self.slots, self.record, i))
+        found(raw::get(self.slots, &self.record, i))
     }
 
     /// The first element.
     #[inline]
     pub fn front(&self) -> Result<Option<u32>, Refusal> {
-        seen(raw::front(self.slots, self.record))
+        found(raw::front(self.slots, &self.record))
     }
 
     /// The last element.
     #[inline]
     pub fn back(&self) -> Result<Option<u32>, Refusal> {
-        seen(raw::back(self.slots, self.record))
+        found(raw::back(self.slots, &self.record))
     }
 
     /// Whether x stands in it.
     #[inline]
     pub fn contains(&self, x: u32) -> Result<bool, Refusal> {
-        let reply = raw::contains(self.slots, self.record, x);
+        let reply = raw::contains(self.slots, &self.record, x);
         Refusal::of(reply.refused)?;
         Ok(reply.is)
     }
@@ -61,8 +61,8 @@ impl Queue<'_> {
     /// Where x stands in a sorted queue: `Ok` of the position, or `Err` of the position where to insert it.
     #[inline]
     pub fn binary_search(&self, x: u32) -> Result<Result<usize, usize>, Refusal> {
-        let reply = raw::binary_search(self.slots, self.record, x);
-        Refusal::of(reply.refused as usize)?;
+        let reply = raw::binary_search(self.slots, &self.record, x);
+        Refusal::of(reply.refused)?;
         Ok(match reply.found {
             1 => Ok(reply.position),
             _ => Err(reply.position),
@@ -73,7 +73,7 @@ impl Queue<'_> {
     #[inline]
     pub fn partition_point(&self, test: Test) -> Result<usize, Refusal> {
         let (kind, k) = test.numbers();
-        let reply = raw::partition_point(self.slots, self.record, kind, k);
+        let reply = raw::partition_point(self.slots, &self.record, kind, k);
         Refusal::of(reply.refused)?;
         Ok(reply.count)
     }
@@ -85,7 +85,7 @@ impl Queue<'_> {
         let mut runs = raw::Runs::default();
         Refusal::of(raw::slice_ranges(
             self.slots,
-            self.record,
+            &self.record,
             start,
             end,
             &mut runs,
@@ -103,13 +103,13 @@ impl Queue<'_> {
     /// A walk over the list, from both ends.
     #[inline]
     pub fn iter(&self) -> Result<Iter<'_>, Refusal> {
-        Iter::begin(self.slots, self.record)
+        Iter::begin(self.slots, &self.record)
     }
 
     /// Writes the saved image, 3 + 4 * len bytes, to the start of the target, and gives their number.
     #[inline]
     pub fn write_image(&self, target: &mut [u8]) -> Result<usize, Refusal> {
-        let reply = raw::write_image(self.slots, self.record, target);
+        let reply = raw::write_image(self.slots, &self.record, target);
         Refusal::of(reply.refused)?;
         Ok(reply.count)
     }

@@ -17,7 +17,7 @@ impl<'a> Queue<'a> {
     pub fn new(slots: &'a mut [u32]) -> Result<Queue<'a>, Refusal> {
         let mut record = Record::default();
         let reply = raw::fresh(slots, &mut record);
-        Refusal::of(reply.refused.into())?;
+        Refusal::of(reply.refused)?;
         Ok(Queue::with_record(slots, record))
     }
 
@@ -25,7 +25,7 @@ impl<'a> Queue<'a> {
     pub fn read_image(slots: &'a mut [u32], bytes: &[u8]) -> Result<Queue<'a>, Refusal> {
         let mut record = Record::default();
         let reply = raw::read_image(slots, &mut record, bytes);
-        Refusal::of(reply.refused.into())?;
+        Refusal::of(reply.refused)?;
         Ok(Queue::with_record(slots, record))
     }
 
@@ -78,7 +78,7 @@ impl<'a> Queue<'a> {
     /// Takes what a call on this queue answers beside its record.
     #[inline]
     pub(crate) fn take(&mut self, reply: raw::Reply) -> Result<Option<u32>, Refusal> {
-        Refusal::of(reply.refused.into())?;
+        Refusal::of(reply.refused)?;
         self.moved = reply.moved;
         Ok((reply.handed == 1).then_some(reply.number))
     }
@@ -86,7 +86,7 @@ impl<'a> Queue<'a> {
     /// Takes what a call answers that hands nothing over.
     #[inline]
     pub(crate) fn take_change(&mut self, reply: raw::Reply) -> Result<(), Refusal> {
-        Refusal::of(reply.refused.into())?;
+        Refusal::of(reply.refused)?;
         self.moved = reply.moved;
         Ok(())
     }

@@ -52,12 +52,12 @@ pub(crate) struct Reply {
     pub moved: usize,
 }
 
-/// Of a look at one element.
+/// Of a look at one element, or a walk's step.
 #[repr(C)]
 #[derive(Clone, Copy)]
-pub(crate) struct SeenReply {
-    pub refused: usize,
-    pub seen: u32,
+pub(crate) struct FoundReply {
+    pub refused: u16,
+    pub found: u16,
     pub number: u32,
 }
 
@@ -65,7 +65,7 @@ pub(crate) struct SeenReply {
 #[repr(C)]
 #[derive(Clone, Copy)]
 pub(crate) struct TruthReply {
-    pub refused: usize,
+    pub refused: u16,
     pub is: bool,
 }
 
@@ -73,16 +73,16 @@ pub(crate) struct TruthReply {
 #[repr(C)]
 #[derive(Clone, Copy)]
 pub(crate) struct OrderReply {
-    pub refused: usize,
-    pub order: usize,
+    pub refused: u16,
+    pub order: u16,
 }
 
 /// Of a search.
 #[repr(C)]
 #[derive(Clone, Copy)]
 pub(crate) struct SearchReply {
-    pub refused: u32,
-    pub found: u32,
+    pub refused: u16,
+    pub found: u16,
     pub position: usize,
 }
 
@@ -90,7 +90,7 @@ pub(crate) struct SearchReply {
 #[repr(C)]
 #[derive(Clone, Copy)]
 pub(crate) struct CountReply {
-    pub refused: usize,
+    pub refused: u16,
     pub count: usize,
 }
 
@@ -138,11 +138,19 @@ mod exported {
         pub fn scorebucket_get(
             slots: *const u32,
             slots_len: usize,
-            q: Record,
+            q: *const Record,
             i: usize,
-        ) -> SeenReply;
-        pub fn scorebucket_front(slots: *const u32, slots_len: usize, q: Record) -> SeenReply;
-        pub fn scorebucket_back(slots: *const u32, slots_len: usize, q: Record) -> SeenReply;
+        ) -> FoundReply;
+        pub fn scorebucket_front(
+            slots: *const u32,
+            slots_len: usize,
+            q: *const Record,
+        ) -> FoundReply;
+        pub fn scorebucket_back(
+            slots: *const u32,
+            slots_len: usize,
+            q: *const Record,
+        ) -> FoundReply;
         pub fn scorebucket_truncate(
             slots: *const u32,
             slots_len: usize,
@@ -272,31 +280,31 @@ mod exported {
         pub fn scorebucket_slice_ranges(
             slots: *const u32,
             slots_len: usize,
-            q: Record,
+            q: *const Record,
             start: usize,
             end: usize,
             runs: *mut Runs,
-        ) -> usize;
+        ) -> u16;
         pub fn scorebucket_begin_walk(
             slots: *const u32,
             slots_len: usize,
             q: *const Record,
             w: *mut Walk,
-        ) -> usize;
+        ) -> u16;
         pub fn scorebucket_walk_next(
             slots: *const u32,
             slots_len: usize,
             w: *mut Walk,
-        ) -> SeenReply;
+        ) -> FoundReply;
         pub fn scorebucket_walk_next_back(
             slots: *const u32,
             slots_len: usize,
             w: *mut Walk,
-        ) -> SeenReply;
+        ) -> FoundReply;
         pub fn scorebucket_contains(
             slots: *const u32,
             slots_len: usize,
-            q: Record,
+            q: *const Record,
             x: u32,
         ) -> TruthReply;
         pub fn scorebucket_eq(
@@ -318,20 +326,20 @@ mod exported {
         pub fn scorebucket_binary_search(
             slots: *const u32,
             slots_len: usize,
-            q: Record,
+            q: *const Record,
             x: u32,
         ) -> SearchReply;
         pub fn scorebucket_partition_point(
             slots: *const u32,
             slots_len: usize,
-            q: Record,
+            q: *const Record,
             kind: u32,
             k: u32,
         ) -> CountReply;
         pub fn scorebucket_write_image(
             slots: *const u32,
             slots_len: usize,
-            q: Record,
+            q: *const Record,
             target: *mut u8,
             target_len: usize,
         ) -> CountReply;
@@ -381,17 +389,17 @@ pub(crate) fn pop_back_if(slots: &[u32], q: &mut Record, kind: u32, k: u32) -> R
 }
 
 #[inline]
-pub(crate) fn get(slots: &[u32], q: Record, i: usize) -> SeenReply {
+pub(crate) fn get(slots: &[u32], q: &Record, i: usize) -> FoundReply {
     unsafe { exported::scorebucket_get(slots.as_ptr(), slots.len(), q, i) }
 }
 
 #[inline]
-pub(crate) fn front(slots: &[u32], q: Record) -> SeenReply {
+pub(crate) fn front(slots: &[u32], q: &Record) -> FoundReply {
     unsafe { exported::scorebucket_front(slots.as_ptr(), slots.len(), q) }
 }
 
 #[inline]
-pub(crate) fn back(slots: &[u32], q: Record) -> SeenReply {
+pub(crate) fn back(slots: &[u32], q: &Record) -> FoundReply {
     unsafe { exported::scorebucket_back(slots.as_ptr(), slots.len(), q) }
 }
 
@@ -568,31 +576,31 @@ pub(crate) fn splice(
 #[inline]
 pub(crate) fn slice_ranges(
     slots: &[u32],
-    q: Record,
+    q: &Record,
     start: usize,
     end: usize,
     runs: &mut Runs,
-) -> usize {
+) -> u16 {
     unsafe { exported::scorebucket_slice_ranges(slots.as_ptr(), slots.len(), q, start, end, runs) }
 }
 
 #[inline]
-pub(crate) fn begin_walk(slots: &[u32], q: &Record, w: &mut Walk) -> usize {
+pub(crate) fn begin_walk(slots: &[u32], q: &Record, w: &mut Walk) -> u16 {
     unsafe { exported::scorebucket_begin_walk(slots.as_ptr(), slots.len(), q, w) }
 }
 
 #[inline]
-pub(crate) fn walk_next(slots: &[u32], w: &mut Walk) -> SeenReply {
+pub(crate) fn walk_next(slots: &[u32], w: &mut Walk) -> FoundReply {
     unsafe { exported::scorebucket_walk_next(slots.as_ptr(), slots.len(), w) }
 }
 
 #[inline]
-pub(crate) fn walk_next_back(slots: &[u32], w: &mut Walk) -> SeenReply {
+pub(crate) fn walk_next_back(slots: &[u32], w: &mut Walk) -> FoundReply {
     unsafe { exported::scorebucket_walk_next_back(slots.as_ptr(), slots.len(), w) }
 }
 
 #[inline]
-pub(crate) fn contains(slots: &[u32], q: Record, x: u32) -> TruthReply {
+pub(crate) fn contains(slots: &[u32], q: &Record, x: u32) -> TruthReply {
     unsafe { exported::scorebucket_contains(slots.as_ptr(), slots.len(), q, x) }
 }
 
@@ -625,17 +633,17 @@ pub(crate) fn cmp(slots: &[u32], q: &Record, other_slots: &[u32], other: &Record
 }
 
 #[inline]
-pub(crate) fn binary_search(slots: &[u32], q: Record, x: u32) -> SearchReply {
+pub(crate) fn binary_search(slots: &[u32], q: &Record, x: u32) -> SearchReply {
     unsafe { exported::scorebucket_binary_search(slots.as_ptr(), slots.len(), q, x) }
 }
 
 #[inline]
-pub(crate) fn partition_point(slots: &[u32], q: Record, kind: u32, k: u32) -> CountReply {
+pub(crate) fn partition_point(slots: &[u32], q: &Record, kind: u32, k: u32) -> CountReply {
     unsafe { exported::scorebucket_partition_point(slots.as_ptr(), slots.len(), q, kind, k) }
 }
 
 #[inline]
-pub(crate) fn write_image(slots: &[u32], q: Record, target: &mut [u8]) -> CountReply {
+pub(crate) fn write_image(slots: &[u32], q: &Record, target: &mut [u8]) -> CountReply {
     unsafe {
         exported::scorebucket_write_image(
             slots.as_ptr(),

@@ -20,7 +20,7 @@ pub enum Refusal {
 impl Refusal {
     /// Ok where a call was accepted. That is asked first, and alone.
     #[inline]
-    pub(crate) fn of(number: usize) -> Result<(), Refusal> {
+    pub(crate) fn of(number: u16) -> Result<(), Refusal> {
         if number == 0 {
             return Ok(());
         }
@@ -29,7 +29,7 @@ impl Refusal {
 
     /// The refusal of a number, which is not 0.
     #[cold]
-    fn numbered(number: usize) -> Refusal {
+    fn numbered(number: u16) -> Refusal {
         match number {
             1 => Refusal::Slots,
             2 => Refusal::Record,

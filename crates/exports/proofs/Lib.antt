@@ -1,4 +1,3 @@
--- `Crossing`: what an exported call answers. `ByTest`: calls with a test of a kind. `Copies`: the straight copy alone.
-pub mod Crossing
+-- `ByTest`: calls with a test of a kind. `Copies`: the straight copy alone.
 pub mod ByTest
 pub mod Copies

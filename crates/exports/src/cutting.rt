@@ -1,18 +1,20 @@
 // The calls that cut elements off.
+use replies::RECORD;
 use replies::Reply;
 use replies::changed;
 use replies::deque_in;
 ghost use mathlib.Core.Path.{_≡_};
 ghost use Rattle.rules.specs.Ends.{truncate, truncateFront, clear};
-ghost use Rattle.rules.specs.Outcome.{shut, doRule};
+ghost use Rattle.rules.specs.Outcome.{doRule};
 ghost use Rattle.replies.specs.InC.{toldInC};
 ghost use Rattle.replies.specs.Records.{recIn};
 ghost use Rattle.replies.specs.Replies.{ofReply};
 
 // Keeps the first n.
 #[no_mangle]
-pub extern "C" fn scorebucket_truncate(slots: &[u32], q: &mut [usize; 2], n: usize) -> Reply
-    ensures { λ r. ⌜ (ofReply r, shut (recIn (now (q .exit))), now (slots .entry)) ≡ toldInC (doRule (now (slots .entry)) (recIn (now (q .entry))) (truncate n)) ⌝ }
+pub extern "C" fn scorebucket_truncate(slots: &[u32], q: &mut [usize; RECORD], n: usize) -> Reply
+    ensures { λ r. ⌜ (ofReply r, now (q .exit), now (slots .entry))
+        ≡ toldInC (now (q .entry)) (doRule (now (slots .entry)) (recIn (now (q .entry))) (truncate n)) ⌝ }
 {
     let before = deque_in(q);
     changed(q, cuts::truncate(slots, before, n))
@@ -20,8 +22,13 @@ pub extern "C" fn scorebucket_truncate(slots: &[u32], q: &mut [usize; 2], n: usi
 
 // Keeps the last n.
 #[no_mangle]
-pub extern "C" fn scorebucket_truncate_front(slots: &[u32], q: &mut [usize; 2], n: usize) -> Reply
-    ensures { λ r. ⌜ (ofReply r, shut (recIn (now (q .exit))), now (slots .entry)) ≡ toldInC (doRule (now (slots .entry)) (recIn (now (q .entry))) (truncateFront n)) ⌝ }
+pub extern "C" fn scorebucket_truncate_front(
+    slots: &[u32],
+    q: &mut [usize; RECORD],
+    n: usize,
+) -> Reply
+    ensures { λ r. ⌜ (ofReply r, now (q .exit), now (slots .entry))
+        ≡ toldInC (now (q .entry)) (doRule (now (slots .entry)) (recIn (now (q .entry))) (truncateFront n)) ⌝ }
 {
     let before = deque_in(q);
     changed(q, cuts::truncate_front(slots, before, n))
@@ -29,8 +36,9 @@ pub extern "C" fn scorebucket_truncate_front(slots: &[u32], q: &mut [usize; 2], 
 
 // Keeps none.
 #[no_mangle]
-pub extern "C" fn scorebucket_clear(slots: &[u32], q: &mut [usize; 2]) -> Reply
-    ensures { λ r. ⌜ (ofReply r, shut (recIn (now (q .exit))), now (slots .entry)) ≡ toldInC (doRule (now (slots .entry)) (recIn (now (q .entry))) clear) ⌝ }
+pub extern "C" fn scorebucket_clear(slots: &[u32], q: &mut [usize; RECORD]) -> Reply
+    ensures { λ r. ⌜ (ofReply r, now (q .exit), now (slots .entry))
+        ≡ toldInC (now (q .entry)) (doRule (now (slots .entry)) (recIn (now (q .entry))) clear) ⌝ }
 {
     let before = deque_in(q);
     changed(q, cuts::clear(slots, before))

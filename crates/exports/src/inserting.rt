@@ -1,28 +1,31 @@
 // The calls in a queue's middle.
-use super::kinds::Asked;
 use super::kinds::no_such_test;
-use super::kinds::test_of_kind;
+use replies::Asked;
+use replies::RECORD;
 use replies::Reply;
 use replies::changed;
 use replies::deque_in;
 use replies::handed;
+use replies::test_of_kind;
 ghost use mathlib.Core.Path.{_≡_};
 ghost use Rattle.rules.specs.Middle.{insertAt, removeAt, retain};
-ghost use Rattle.rules.specs.Outcome.{shut, doRule};
+ghost use Rattle.rules.specs.Outcome.{doRule};
 ghost use Rattle.replies.specs.InC.{toldInC};
 ghost use Rattle.replies.specs.Records.{recIn};
 ghost use Rattle.replies.specs.Replies.{ofReply};
-ghost use Rattle.exports.specs.Kinds.{testIn, doTested};
+ghost use Rattle.replies.specs.Kinds.{testIn};
+ghost use Rattle.exports.specs.Kinds.{doTested};
 
 // Puts v at position i.
 #[no_mangle]
 pub extern "C" fn scorebucket_insert(
     slots: &mut [u32],
-    q: &mut [usize; 2],
+    q: &mut [usize; RECORD],
     i: usize,
     v: u32,
 ) -> Reply
-    ensures { λ r. ⌜ (ofReply r, shut (recIn (now (q .exit))), now (slots .exit)) ≡ toldInC (doRule (now (slots .entry)) (recIn (now (q .entry))) (insertAt i v)) ⌝ }
+    ensures { λ r. ⌜ (ofReply r, now (q .exit), now (slots .exit))
+        ≡ toldInC (now (q .entry)) (doRule (now (slots .entry)) (recIn (now (q .entry))) (insertAt i v)) ⌝ }
 {
     let before = deque_in(q);
     changed(q, middle::insert(slots, before, i, v))
@@ -30,8 +33,9 @@ pub extern "C" fn scorebucket_insert(
 
 // Hands the element at position i over.
 #[no_mangle]
-pub extern "C" fn scorebucket_remove(slots: &mut [u32], q: &mut [usize; 2], i: usize) -> Reply
-    ensures { λ r. ⌜ (ofReply r, shut (recIn (now (q .exit))), now (slots .exit)) ≡ toldInC (doRule (now (slots .entry)) (recIn (now (q .entry))) (removeAt i)) ⌝ }
+pub extern "C" fn scorebucket_remove(slots: &mut [u32], q: &mut [usize; RECORD], i: usize) -> Reply
+    ensures { λ r. ⌜ (ofReply r, now (q .exit), now (slots .exit))
+        ≡ toldInC (now (q .entry)) (doRule (now (slots .entry)) (recIn (now (q .entry))) (removeAt i)) ⌝ }
 {
     let before = deque_in(q);
     handed(q, middle::remove(slots, before, i))
@@ -41,11 +45,12 @@ pub extern "C" fn scorebucket_remove(slots: &mut [u32], q: &mut [usize; 2], i: u
 #[no_mangle]
 pub extern "C" fn scorebucket_retain(
     slots: &mut [u32],
-    q: &mut [usize; 2],
+    q: &mut [usize; RECORD],
     kind: u32,
     k: u32,
 ) -> Reply
-    ensures { λ r. ⌜ (ofReply r, shut (recIn (now (q .exit))), now (slots .exit)) ≡ toldInC (doTested (now (slots .entry)) (recIn (now (q .entry))) (testIn kind k) retain) ⌝ }
+    ensures { λ r. ⌜ (ofReply r, now (q .exit), now (slots .exit))
+        ≡ toldInC (now (q .entry)) (doTested (now (slots .entry)) (recIn (now (q .entry))) (testIn kind k) retain) ⌝ }
 {
     let before = deque_in(q);
     if let Asked::For(test) = test_of_kind(kind, k) {

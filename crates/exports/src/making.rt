@@ -1,16 +1,30 @@
-// The call that makes an empty queue.
+// The calls that make a queue: an empty one, and one of a saved image.
+use replies::RECORD;
 use replies::Reply;
 use replies::made;
 ghost use mathlib.Core.Path.{_≡_};
-ghost use Rattle.rules.specs.Makes.{fresh};
+ghost use Rattle.rules.specs.Makes.{fresh, readImage};
 ghost use Rattle.replies.specs.InC.{makingToldInC};
-ghost use Rattle.replies.specs.Records.{recIn};
 ghost use Rattle.replies.specs.Replies.{ofReply};
 
 // An empty queue over lent slots.
 #[no_mangle]
-pub extern "C" fn scorebucket_fresh(slots: &[u32], q: &mut [usize; 2]) -> Reply
-    ensures { λ r. ⌜ (ofReply r, recIn (now (q .exit)), now (slots .entry)) ≡ makingToldInC (recIn (now (q .entry))) (fresh (now (slots .entry))) ⌝ }
+pub extern "C" fn scorebucket_fresh(slots: &[u32], q: &mut [usize; RECORD]) -> Reply
+    ensures { λ r. ⌜ (ofReply r, now (q .exit), now (slots .entry))
+        ≡ makingToldInC (now (q .entry)) (fresh (now (slots .entry))) ⌝ }
 {
     made(q, elements::fresh(slots))
+}
+
+// Reads an image into bare slots, and makes the record of its elements.
+#[no_mangle]
+pub extern "C" fn scorebucket_read_image(
+    slots: &mut [u32],
+    q: &mut [usize; RECORD],
+    bytes: &[u8],
+) -> Reply
+    ensures { λ r. ⌜ (ofReply r, now (q .exit), now (slots .exit))
+        ≡ makingToldInC (now (q .entry)) (readImage (now (slots .entry)) (now (bytes .entry))) ⌝ }
+{
+    made(q, images::read_image(slots, bytes))
 }

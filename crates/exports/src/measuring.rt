@@ -27,7 +27,7 @@ pub extern "C" fn scorebucket_copy(
     dst: usize,
     n: usize,
     times: usize,
-) -> usize
+) -> u16
     ensures { λ r. ⌜ (r, now (slots .exit)) ≡ copyTold (now (slots .entry)) src dst n times ⌝ }
 {
     let cap = slots.len();

@@ -1,18 +1,20 @@
 // The calls that add an element at an end.
+use replies::RECORD;
 use replies::Reply;
 use replies::changed;
 use replies::deque_in;
 ghost use mathlib.Core.Path.{_≡_};
 ghost use Rattle.rules.specs.Ends.{pushBack, pushFront};
-ghost use Rattle.rules.specs.Outcome.{shut, doRule};
+ghost use Rattle.rules.specs.Outcome.{doRule};
 ghost use Rattle.replies.specs.InC.{toldInC};
 ghost use Rattle.replies.specs.Records.{recIn};
 ghost use Rattle.replies.specs.Replies.{ofReply};
 
 // Appends v.
 #[no_mangle]
-pub extern "C" fn scorebucket_push_back(slots: &mut [u32], q: &mut [usize; 2], v: u32) -> Reply
-    ensures { λ r. ⌜ (ofReply r, shut (recIn (now (q .exit))), now (slots .exit)) ≡ toldInC (doRule (now (slots .entry)) (recIn (now (q .entry))) (pushBack v)) ⌝ }
+pub extern "C" fn scorebucket_push_back(slots: &mut [u32], q: &mut [usize; RECORD], v: u32) -> Reply
+    ensures { λ r. ⌜ (ofReply r, now (q .exit), now (slots .exit))
+        ≡ toldInC (now (q .entry)) (doRule (now (slots .entry)) (recIn (now (q .entry))) (pushBack v)) ⌝ }
 {
     let before = deque_in(q);
     changed(q, ends::push_back(slots, before, v))
@@ -20,8 +22,13 @@ pub extern "C" fn scorebucket_push_back(slots: &mut [u32], q: &mut [usize; 2], v
 
 // Puts v in front.
 #[no_mangle]
-pub extern "C" fn scorebucket_push_front(slots: &mut [u32], q: &mut [usize; 2], v: u32) -> Reply
-    ensures { λ r. ⌜ (ofReply r, shut (recIn (now (q .exit))), now (slots .exit)) ≡ toldInC (doRule (now (slots .entry)) (recIn (now (q .entry))) (pushFront v)) ⌝ }
+pub extern "C" fn scorebucket_push_front(
+    slots: &mut [u32],
+    q: &mut [usize; RECORD],
+    v: u32,
+) -> Reply
+    ensures { λ r. ⌜ (ofReply r, now (q .exit), now (slots .exit))
+        ≡ toldInC (now (q .entry)) (doRule (now (slots .entry)) (recIn (now (q .entry))) (pushFront v)) ⌝ }
 {
     let before = deque_in(q);
     changed(q, ends::push_front(slots, before, v))

@@ -1,11 +1,12 @@
 // The calls that put an element in another's place.
+use replies::RECORD;
 use replies::Reply;
 use replies::changed;
 use replies::deque_in;
 use replies::handed;
 ghost use mathlib.Core.Path.{_≡_};
 ghost use Rattle.rules.specs.Ends.{exchange, swapRemoveFront, swapRemoveBack};
-ghost use Rattle.rules.specs.Outcome.{shut, doRule};
+ghost use Rattle.rules.specs.Outcome.{doRule};
 ghost use Rattle.replies.specs.InC.{toldInC};
 ghost use Rattle.replies.specs.Records.{recIn};
 ghost use Rattle.replies.specs.Replies.{ofReply};
@@ -14,11 +15,12 @@ ghost use Rattle.replies.specs.Replies.{ofReply};
 #[no_mangle]
 pub extern "C" fn scorebucket_swap(
     slots: &mut [u32],
-    q: &mut [usize; 2],
+    q: &mut [usize; RECORD],
     i: usize,
     j: usize,
 ) -> Reply
-    ensures { λ r. ⌜ (ofReply r, shut (recIn (now (q .exit))), now (slots .exit)) ≡ toldInC (doRule (now (slots .entry)) (recIn (now (q .entry))) (exchange i j)) ⌝ }
+    ensures { λ r. ⌜ (ofReply r, now (q .exit), now (slots .exit))
+        ≡ toldInC (now (q .entry)) (doRule (now (slots .entry)) (recIn (now (q .entry))) (exchange i j)) ⌝ }
 {
     let before = deque_in(q);
     changed(q, swaps::swap(slots, before, i, j))
@@ -28,10 +30,11 @@ pub extern "C" fn scorebucket_swap(
 #[no_mangle]
 pub extern "C" fn scorebucket_swap_remove_front(
     slots: &mut [u32],
-    q: &mut [usize; 2],
+    q: &mut [usize; RECORD],
     i: usize,
 ) -> Reply
-    ensures { λ r. ⌜ (ofReply r, shut (recIn (now (q .exit))), now (slots .exit)) ≡ toldInC (doRule (now (slots .entry)) (recIn (now (q .entry))) (swapRemoveFront i)) ⌝ }
+    ensures { λ r. ⌜ (ofReply r, now (q .exit), now (slots .exit))
+        ≡ toldInC (now (q .entry)) (doRule (now (slots .entry)) (recIn (now (q .entry))) (swapRemoveFront i)) ⌝ }
 {
     let before = deque_in(q);
     handed(q, swaps::swap_remove_front(slots, before, i))
@@ -41,10 +44,11 @@ pub extern "C" fn scorebucket_swap_remove_front(
 #[no_mangle]
 pub extern "C" fn scorebucket_swap_remove_back(
     slots: &mut [u32],
-    q: &mut [usize; 2],
+    q: &mut [usize; RECORD],
     i: usize,
 ) -> Reply
-    ensures { λ r. ⌜ (ofReply r, shut (recIn (now (q .exit))), now (slots .exit)) ≡ toldInC (doRule (now (slots .entry)) (recIn (now (q .entry))) (swapRemoveBack i)) ⌝ }
+    ensures { λ r. ⌜ (ofReply r, now (q .exit), now (slots .exit))
+        ≡ toldInC (now (q .entry)) (doRule (now (slots .entry)) (recIn (now (q .entry))) (swapRemoveBack i)) ⌝ }
 {
     let before = deque_in(q);
     handed(q, swaps::swap_remove_back(slots, before, i))

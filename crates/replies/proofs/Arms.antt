@@ -2,9 +2,12 @@
 use mathlib.Core.Path.{_≡_, refl, sym, _∙_, ap}
 use Prim.Native.Nat.{ℕ, _≤_}
 use native.Mathlib.Omega.{arith}
+use Rattle.queue.proofs.Numbers.{some-number}
 use Rattle.queue.specs.Answers.{numberOf}
 use Rattle.queue.specs.declared.refusals.Refusal.{Refusal}
 use Rattle.queue.specs.declared.refusals.Refusal.the-variants.{Slots, Record, Position, Room, Image}
+use Rattle.rules.proofs.Tests.{unless-stop}
+use Rattle.rules.specs.Tests.{unless}
 
 -- the arm makes it of the answer's own parts
 pub arm : {A B C : Type 0} (f : B → C) (o : A → B) (a a′ : A) → a′ ≡ a → f (o a) ≡ f (o a′)
@@ -21,6 +24,18 @@ arm-three f o s s′ t t′ u u′ a a′ one two three makes is = ap (λ x. (x,
 -- the refusal number alone
 pub arm-refused : {A B C : Type 0} (f : B → ℕ × C) (o : A → B) (n k : ℕ) (rest : C) (a a′ : A) → n ≡ k → (k, rest) ≡ f (o a) → a′ ≡ a → (n, rest) ≡ f (o a′)
 arm-refused f o n k rest a a′ number makes is = arm-two f o n k rest rest a a′ number refl makes is
+
+-- refused: no word is stored
+pub stays : {S W : Type 0} (s : S) (x : Refusal) (new old : W)
+    → _≡_ {A = S × W} (s, old) (s, unless (numberOf x) new old)
+stays {S} {W} s x new old = ap (λ (w : W). (s, w)) (sym (unless-stop (numberOf x) new old (some-number x)))
+
+-- in neither of two records
+pub stay : {S W : Type 0} (s : S) (x : Refusal) (new old new′ old′ : W)
+    → _≡_ {A = S × W × W} (s, old, old′) (s, unless (numberOf x) new old, unless (numberOf x) new′ old′)
+stay {S} {W} s x new old new′ old′ =
+    ap (λ (w : W). (s, w, old′)) (sym (unless-stop (numberOf x) new old (some-number x)))
+    ∙ ap (λ (w : W). (s, unless (numberOf x) new old, w)) (sym (unless-stop (numberOf x) new′ old′ (some-number x)))
 
 -- a refusal number fits any width
 pub few : (n : ℕ) (x : Refusal) → n ≡ numberOf x → n ≤ 5

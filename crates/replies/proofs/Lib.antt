@@ -1,3 +1,4 @@
--- `Stored`: records and their numbers. `Arms`: how an arm of a match is read.
+-- `Stored`: records and their words. `Arms`: how an arm of a match is read. `Crossing`: what an exported call answers.
 pub mod Stored
 pub mod Arms
+pub mod Crossing

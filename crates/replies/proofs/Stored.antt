@@ -1,4 +1,4 @@
--- Records that are read out of their numbers, and stored there. Assumes nothing.
+-- Records that are read out of their words, and stored there. Assumes nothing.
 use mathlib.Core.List.{List, [], _∷_}
 use mathlib.Core.Path.{_≡_, ap}
 use Prim.Native.Nat.{ℕ}
@@ -6,7 +6,7 @@ use lib.ListN.{getD}
 use Rattle.rules.specs.Drains.{Drain}
 use Rattle.rules.specs.Records.{Rec}
 use Rattle.rules.specs.Walks.{Walk}
-use Rattle.replies.specs.Records.{recIn, drainIn, walkIn}
+use Rattle.replies.specs.Records.{recIn, recWords, drainIn, drainWords, walkIn, walkWords}
 
 abbrev recOn : ℕ → ℕ → Rec
 recOn h n = record { head = h; len = n }
@@ -33,14 +33,14 @@ module _ (l : List ℕ) (h : ℕ) (is : h ≡ getD l 0 0) where
 
 -- ---- stored: a call gives the number k of the place h of head
 module _ (k h : ℕ) (is : k ≡ h) where
-  pub rec-stored : (n : ℕ) → recIn (k ∷ n ∷ []) ≡ recOn h n
-  unfolding recIn
-  rec-stored n = ap (λ (x : ℕ). recOn x n) is
+  pub rec-stored : (n : ℕ) → k ∷ n ∷ [] ≡ recWords (recOn h n)
+  unfolding recWords
+  rec-stored n = ap (λ (x : ℕ). x ∷ n ∷ []) is
 
-  pub drain-stored : (s n i t m : ℕ) → drainIn (k ∷ s ∷ n ∷ i ∷ t ∷ m ∷ []) ≡ drainOn h s n i t m
-  unfolding drainIn
-  drain-stored s n i t m = ap (λ (x : ℕ). drainOn x s n i t m) is
+  pub drain-stored : (s n i t m : ℕ) → k ∷ s ∷ n ∷ i ∷ t ∷ m ∷ [] ≡ drainWords (drainOn h s n i t m)
+  unfolding drainWords
+  drain-stored s n i t m = ap (λ (x : ℕ). x ∷ s ∷ n ∷ i ∷ t ∷ m ∷ []) is
 
-  pub walk-stored : (n low high : ℕ) → walkIn (k ∷ n ∷ low ∷ high ∷ []) ≡ walkOn h n low high
-  unfolding walkIn recIn
-  walk-stored n low high = ap (λ (x : ℕ). walkOn x n low high) is
+  pub walk-stored : (n low high : ℕ) → k ∷ n ∷ low ∷ high ∷ [] ≡ walkWords (walkOn h n low high)
+  unfolding walkWords recWords
+  walk-stored n low high = ap (λ (x : ℕ). x ∷ n ∷ low ∷ high ∷ []) is

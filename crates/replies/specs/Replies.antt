@@ -3,7 +3,7 @@ use mathlib.Core.Bool.{Bool}
 use Prim.Native.Nat.{ℕ}
 use Rattle.replies.specs.InC.{Said}
 use Rattle.replies.specs.declared.changes.Reply.{Reply}
-use Rattle.replies.specs.declared.looks.SeenReply.{SeenReply}
+use Rattle.replies.specs.declared.looks.FoundReply.{FoundReply}
 use Rattle.replies.specs.declared.looks.TruthReply.{TruthReply}
 use Rattle.replies.specs.declared.looks.OrderReply.{OrderReply}
 use Rattle.replies.specs.declared.looks.SearchReply.{SearchReply}
@@ -12,8 +12,8 @@ use Rattle.replies.specs.declared.looks.CountReply.{CountReply}
 abbrev pub ofReply : Reply → Said
 ofReply r = (r .refused, (r .moved, (r .handed, r .number)))
 
-abbrev pub ofSeenReply : SeenReply → ℕ × (ℕ × ℕ)
-ofSeenReply r = (r .refused, (r .seen, r .number))
+abbrev pub ofFoundReply : FoundReply → ℕ × (ℕ × ℕ)
+ofFoundReply r = (r .refused, (r .found, r .number))
 
 abbrev pub ofTruthReply : TruthReply → ℕ × Bool
 ofTruthReply r = (r .refused, r .is)

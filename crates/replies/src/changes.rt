@@ -1,4 +1,7 @@
 // The answers of the calls that change a list or a record. The caller's record is changed where it stands, and what is said beside it fits two registers.
+// A refused call stores no word.
+use super::numbers::number_of;
+use super::records::RECORD;
 use super::records::store_deque;
 use elements::Handed;
 use queue::Change;
@@ -11,9 +14,7 @@ ghost use mathlib.Core.Path.{_≡_};
 ghost use Rattle.queue.specs.Answers.{numberOf, ofChange, ofMade};
 ghost use Rattle.elements.specs.Answers.{ofHanded};
 ghost use Rattle.queue.specs.Pairs.{ofJoined, ofSplit};
-ghost use Rattle.rules.specs.Outcome.{shut};
 ghost use Rattle.replies.specs.InC.{said, answerInC, makingInC, pairingInC};
-ghost use Rattle.replies.specs.Records.{recIn};
 ghost use Rattle.replies.specs.Replies.{ofReply};
 
 // What such a call says: `refused` is the refusal number, or 0; `handed` is 1 where `number` was handed over, else both are 0.
@@ -54,16 +55,16 @@ pub fn refuses(refusal: Refusal, moved: usize) -> Reply
     ensures { λ r. ⌜ ofReply r ≡ said (numberOf refusal) moved none ⌝ }
 {
     Reply {
-        refused: answers::number_of(refusal) as u16,
+        refused: number_of(refusal),
         handed: 0,
         number: 0,
         moved,
     }
 }
 
-// Stores the record after a call that hands nothing over.
-pub fn changed(q: &mut [usize; 2], change: Change) -> Reply
-    ensures { λ r. ⌜ (ofReply r, shut (recIn (now (q .exit)))) ≡ answerInC (ofChange change) ⌝ }
+// Stores the record after a call that hands nothing over, if it was accepted.
+pub fn changed(q: &mut [usize; RECORD], change: Change) -> Reply
+    ensures { λ r. ⌜ (ofReply r, now (q .exit)) ≡ answerInC (now (q .entry)) (ofChange change) ⌝ }
 {
     match change {
         Change::Done { queue, moved } => {
@@ -72,18 +73,15 @@ pub fn changed(q: &mut [usize; 2], change: Change) -> Reply
         }
         Change::Refused {
             refusal,
-            queue,
+            queue: _,
             moved,
-        } => {
-            store_deque(q, queue);
-            refuses(refusal, moved)
-        }
+        } => refuses(refusal, moved),
     }
 }
 
-// Stores the record after a call that hands an element over.
-pub fn handed(q: &mut [usize; 2], handed: Handed) -> Reply
-    ensures { λ r. ⌜ (ofReply r, shut (recIn (now (q .exit)))) ≡ answerInC (ofHanded handed) ⌝ }
+// Stores the record after a call that hands an element over, if it was accepted.
+pub fn handed(q: &mut [usize; RECORD], handed: Handed) -> Reply
+    ensures { λ r. ⌜ (ofReply r, now (q .exit)) ≡ answerInC (now (q .entry)) (ofHanded handed) ⌝ }
 {
     match handed {
         Handed::Number {
@@ -100,18 +98,15 @@ pub fn handed(q: &mut [usize; 2], handed: Handed) -> Reply
         }
         Handed::Refused {
             refusal,
-            queue,
+            queue: _,
             moved,
-        } => {
-            store_deque(q, queue);
-            refuses(refusal, moved)
-        }
+        } => refuses(refusal, moved),
     }
 }
 
 // Stores the record that a call made, if it made one.
-pub fn made(q: &mut [usize; 2], made: Made) -> Reply
-    ensures { λ r. ⌜ (ofReply r, recIn (now (q .exit))) ≡ makingInC (recIn (now (q .entry))) (ofMade made) ⌝ }
+pub fn made(q: &mut [usize; RECORD], made: Made) -> Reply
+    ensures { λ r. ⌜ (ofReply r, now (q .exit)) ≡ makingInC (now (q .entry)) (ofMade made) ⌝ }
 {
     match made {
         Made::Done { queue, moved } => {
@@ -122,9 +117,10 @@ pub fn made(q: &mut [usize; 2], made: Made) -> Reply
     }
 }
 
-// Stores both records after `append`.
-pub fn joined(q: &mut [usize; 2], other: &mut [usize; 2], joined: Joined) -> Reply
-    ensures { λ r. ⌜ (ofReply r, recIn (now (q .exit)), recIn (now (other .exit))) ≡ pairingInC (recIn (now (other .entry))) (ofJoined joined) ⌝ }
+// Stores both records after `append`, if it was accepted.
+pub fn joined(q: &mut [usize; RECORD], other: &mut [usize; RECORD], joined: Joined) -> Reply
+    ensures { λ r. ⌜ (ofReply r, now (q .exit), now (other .exit))
+        ≡ pairingInC (now (q .entry)) (now (other .entry)) (ofJoined joined) ⌝ }
 {
     match joined {
         Joined::Done {
@@ -138,20 +134,17 @@ pub fn joined(q: &mut [usize; 2], other: &mut [usize; 2], joined: Joined) -> Rep
         }
         Joined::Refused {
             refusal,
-            queue,
-            other: same,
+            queue: _,
+            other: _,
             moved,
-        } => {
-            store_deque(q, queue);
-            store_deque(other, same);
-            refuses(refusal, moved)
-        }
+        } => refuses(refusal, moved),
     }
 }
 
-// Stores the record after `split_off`, and the target's, if it made one.
-pub fn split(q: &mut [usize; 2], t: &mut [usize; 2], split: Split) -> Reply
-    ensures { λ r. ⌜ (ofReply r, recIn (now (q .exit)), recIn (now (t .exit))) ≡ pairingInC (recIn (now (t .entry))) (ofSplit split) ⌝ }
+// Stores the record after `split_off` and the target's, if it was accepted.
+pub fn split(q: &mut [usize; RECORD], t: &mut [usize; RECORD], split: Split) -> Reply
+    ensures { λ r. ⌜ (ofReply r, now (q .exit), now (t .exit))
+        ≡ pairingInC (now (q .entry)) (now (t .entry)) (ofSplit split) ⌝ }
 {
     match split {
         Split::Done {
@@ -165,11 +158,8 @@ pub fn split(q: &mut [usize; 2], t: &mut [usize; 2], split: Split) -> Reply
         }
         Split::Refused {
             refusal,
-            queue,
+            queue: _,
             moved,
-        } => {
-            store_deque(q, queue);
-            refuses(refusal, moved)
-        }
+        } => refuses(refusal, moved),
     }
 }

@@ -1,4 +1,5 @@
 // The answers of the calls that only look. Refused, the other fields are 0 or false.
+use super::numbers::number_of;
 use elements::Found;
 use queue::Ordering;
 use queue::Point;
@@ -8,64 +9,64 @@ use queue::Written;
 ghost use mathlib.Core.Path.{_≡_};
 ghost use Rattle.elements.specs.Answers.{ofFound};
 ghost use Rattle.queue.specs.Looks.{ofTruth, ofOrdering, ofSearched, ofPoint, ofWritten};
-ghost use Rattle.replies.specs.InC.{seenInC, truthInC, orderInC, spotInC, countInC};
-ghost use Rattle.replies.specs.Replies.{ofSeenReply, ofTruthReply, ofOrderReply, ofSearchReply, ofCountReply};
+ghost use Rattle.replies.specs.InC.{foundInC, truthInC, orderInC, spotInC, countInC};
+ghost use Rattle.replies.specs.Replies.{ofFoundReply, ofTruthReply, ofOrderReply, ofSearchReply, ofCountReply};
 
-// What a look at one element answers: `seen` is 1 where `number` stands there, else both are 0.
+// What a look at one element answers: `found` is 1 where `number` stands there, else both are 0.
 #[repr(C)]
-pub struct SeenReply {
-    pub refused: usize,
-    pub seen: u32,
+pub struct FoundReply {
+    pub refused: u16,
+    pub found: u16,
     pub number: u32,
 }
 
 // What a yes-or-no question answers.
 #[repr(C)]
 pub struct TruthReply {
-    pub refused: usize,
+    pub refused: u16,
     pub is: bool,
 }
 
 // How two lists stand to each other: 1 less, 2 equal, 3 greater; refused, 0.
 #[repr(C)]
 pub struct OrderReply {
-    pub refused: usize,
-    pub order: usize,
+    pub refused: u16,
+    pub order: u16,
 }
 
 // What a search answers: `found` is 1 and `position` is where x stands, or 0 and where to insert it.
 #[repr(C)]
 pub struct SearchReply {
-    pub refused: u32,
-    pub found: u32,
+    pub refused: u16,
+    pub found: u16,
     pub position: usize,
 }
 
 // A number of elements or of bytes.
 #[repr(C)]
 pub struct CountReply {
-    pub refused: usize,
+    pub refused: u16,
     pub count: usize,
 }
 
 // The answer of `get`, `front` and `back`.
-pub fn of_found(found: Found) -> SeenReply
-    ensures { λ r. ⌜ ofSeenReply r ≡ seenInC (ofFound found) ⌝ }
+pub fn of_found(found: Found) -> FoundReply
+    ensures { λ r. ⌜ ofFoundReply r ≡ foundInC (ofFound found) ⌝ }
 {
     match found {
-        Found::Number(number) => SeenReply {
+        Found::Number(number) => FoundReply {
             refused: 0,
-            seen: 1,
+            found: 1,
             number,
         },
-        Found::Nothing => SeenReply {
+        Found::Nothing => FoundReply {
             refused: 0,
-            seen: 0,
+            found: 0,
             number: 0,
         },
-        Found::Refused(refusal) => SeenReply {
-            refused: answers::number_of(refusal),
-            seen: 0,
+        Found::Refused(refusal) => FoundReply {
+            refused: number_of(refusal),
+            found: 0,
             number: 0,
         },
     }
@@ -78,7 +79,7 @@ pub fn of_truth(truth: Truth) -> TruthReply
     match truth {
         Truth::Is(is) => TruthReply { refused: 0, is },
         Truth::Refused(refusal) => TruthReply {
-            refused: answers::number_of(refusal),
+            refused: number_of(refusal),
             is: false,
         },
     }
@@ -102,7 +103,7 @@ pub fn of_ordering(ordering: Ordering) -> OrderReply
             order: 3,
         },
         Ordering::Refused(refusal) => OrderReply {
-            refused: answers::number_of(refusal),
+            refused: number_of(refusal),
             order: 0,
         },
     }
@@ -124,7 +125,7 @@ pub fn of_searched(searched: Searched) -> SearchReply
             position,
         },
         Searched::Refused(refusal) => SearchReply {
-            refused: answers::number_of(refusal) as u32,
+            refused: number_of(refusal),
             found: 0,
             position: 0,
         },
@@ -138,7 +139,7 @@ pub fn of_point(point: Point) -> CountReply
     match point {
         Point::At(count) => CountReply { refused: 0, count },
         Point::Refused(refusal) => CountReply {
-            refused: answers::number_of(refusal),
+            refused: number_of(refusal),
             count: 0,
         },
     }
@@ -151,7 +152,7 @@ pub fn of_written(written: Written) -> CountReply
     match written {
         Written::Bytes(count) => CountReply { refused: 0, count },
         Written::Refused(refusal) => CountReply {
-            refused: answers::number_of(refusal),
+            refused: number_of(refusal),
             count: 0,
         },
     }

@@ -1,5 +1,5 @@
-// The records as they cross: the numbers of their fields, one behind the other, in the caller's memory. A record that is changed there goes back and forth
-// field by field, so a load never waits for two stores.
+// The records as they cross: the numbers of their fields, one behind the other, as words of the caller's memory.
+// A record that is changed there goes back and forth field by field, so a load never waits for two stores.
 use places::WrappedIndex;
 use queue::Deque;
 use queue::Drain;
@@ -10,10 +10,22 @@ ghost use Rattle.queue.specs.Answers.{recOf};
 ghost use Rattle.queue.specs.Drains.{drainOf};
 ghost use Rattle.queue.specs.Looks.{spanOf, walkOf};
 ghost use Rattle.rules.specs.Runs.{twoRuns};
-ghost use Rattle.replies.specs.Records.{recIn, drainIn, walkIn, runsIn};
+ghost use Rattle.replies.specs.Records.{recIn, recWords, drainIn, drainWords, walkIn, walkWords, runsWords};
+
+// How many words the record of a queue has.
+pub const RECORD: usize = 2;
+
+// Of an open drain.
+pub const DRAIN: usize = 6;
+
+// Of a walk by value: the queue's, and its two ends.
+pub const WALK: usize = RECORD + 2;
+
+// Of the places of two runs.
+pub const RUNS: usize = 4;
 
 // The record of a queue.
-pub fn deque_in(q: &[usize; 2]) -> Deque
+pub fn deque_in(q: &[usize; RECORD]) -> Deque
     ensures { λ r. ⌜ recOf r ≡ recIn (now (q .entry)) ⌝ }
 {
     Deque {
@@ -23,7 +35,7 @@ pub fn deque_in(q: &[usize; 2]) -> Deque
 }
 
 // The record of an open drain.
-pub fn drain_in(d: &[usize; 6]) -> Drain
+pub fn drain_in(d: &[usize; DRAIN]) -> Drain
     ensures { λ r. ⌜ drainOf r ≡ drainIn (now (d .entry)) ⌝ }
 {
     Drain {
@@ -37,7 +49,7 @@ pub fn drain_in(d: &[usize; 6]) -> Drain
 }
 
 // A walk by value.
-pub fn walk_in(w: &[usize; 4]) -> Walk
+pub fn walk_in(w: &[usize; WALK]) -> Walk
     ensures { λ r. ⌜ walkOf r ≡ walkIn (now (w .entry)) ⌝ }
 {
     Walk {
@@ -51,16 +63,16 @@ pub fn walk_in(w: &[usize; 4]) -> Walk
 }
 
 // Stores the record of a queue.
-pub fn store_deque(q: &mut [usize; 2], queue: Deque)
-    ensures { λ _. ⌜ recIn (now (q .exit)) ≡ recOf queue ⌝ }
+pub fn store_deque(q: &mut [usize; RECORD], queue: Deque)
+    ensures { λ _. ⌜ now (q .exit) ≡ recWords (recOf queue) ⌝ }
 {
     let head = queue.head;
     *q = [head.as_index(), queue.len];
 }
 
 // Stores the record of an open drain.
-pub fn store_drain(d: &mut [usize; 6], drain: Drain)
-    ensures { λ _. ⌜ drainIn (now (d .exit)) ≡ drainOf drain ⌝ }
+pub fn store_drain(d: &mut [usize; DRAIN], drain: Drain)
+    ensures { λ _. ⌜ now (d .exit) ≡ drainWords (drainOf drain) ⌝ }
 {
     let head = drain.head;
     *d = [
@@ -74,8 +86,8 @@ pub fn store_drain(d: &mut [usize; 6], drain: Drain)
 }
 
 // Stores a walk.
-pub fn store_walk(w: &mut [usize; 4], walk: Walk)
-    ensures { λ _. ⌜ walkIn (now (w .exit)) ≡ walkOf walk ⌝ }
+pub fn store_walk(w: &mut [usize; WALK], walk: Walk)
+    ensures { λ _. ⌜ now (w .exit) ≡ walkWords (walkOf walk) ⌝ }
 {
     let queue = walk.queue;
     let head = queue.head;
@@ -83,8 +95,8 @@ pub fn store_walk(w: &mut [usize; 4], walk: Walk)
 }
 
 // Stores the places of two runs.
-pub fn store_runs(places: &mut [usize; 4], front: Span, back: Span)
-    ensures { λ _. ⌜ runsIn (now (places .exit)) ≡ twoRuns (spanOf front) (spanOf back) ⌝ }
+pub fn store_runs(places: &mut [usize; RUNS], front: Span, back: Span)
+    ensures { λ _. ⌜ now (places .exit) ≡ runsWords (twoRuns (spanOf front) (spanOf back)) ⌝ }
 {
     *places = [front.start, front.end, back.start, back.end];
 }

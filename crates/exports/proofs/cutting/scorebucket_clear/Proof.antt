@@ -1,5 +1,5 @@
 -- `exports::cutting::scorebucket_clear` meets its contract. Assumes nothing.
-use Rattle.exports.proofs.Crossing.{by-rule}
+use Rattle.replies.proofs.Crossing.{by-rule}
 use borrow.Author.Needs.{needs}
 use Rattle.exports.proofs.cutting.scorebucket_clear.Statement.{statement}
 use Rattle.exports.proofs.cutting.scorebucket_clear.Tie as tie
@@ -14,7 +14,9 @@ changed-requires : tie.Need-changed-requires
 changed-requires c κs = search needs
 
 returns : tie.Need-returns
-returns c = by-rule _ _ _ (c .before .before .before .deque-in .ensures) _ _ _ _ _ (c .changed .ensures) (c .before .clear .ensures)
+returns c =
+    by-rule _ _ _ (c .before .before .before .deque-in .ensures) _ _ _ _ _ _ (c .changed .ensures)
+    (c .before .clear .ensures)
 
 pub scorebucket-clear-spec : {M : Type 1} → statement M
 scorebucket-clear-spec =

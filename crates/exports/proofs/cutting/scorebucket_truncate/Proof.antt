@@ -1,5 +1,5 @@
 -- `exports::cutting::scorebucket_truncate` meets its contract. Assumes nothing.
-use Rattle.exports.proofs.Crossing.{by-rule}
+use Rattle.replies.proofs.Crossing.{by-rule}
 use borrow.Author.Needs.{needs}
 use Rattle.exports.proofs.cutting.scorebucket_truncate.Statement.{statement}
 use Rattle.exports.proofs.cutting.scorebucket_truncate.Tie as tie
@@ -14,7 +14,9 @@ changed-requires : tie.Need-changed-requires
 changed-requires c κs = search needs
 
 returns : tie.Need-returns
-returns c = by-rule _ _ _ (c .before .before .before .deque-in .ensures) _ _ _ _ _ (c .changed .ensures) (c .before .truncate .ensures)
+returns c =
+    by-rule _ _ _ (c .before .before .before .deque-in .ensures) _ _ _ _ _ _ (c .changed .ensures)
+    (c .before .truncate .ensures)
 
 pub scorebucket-truncate-spec : {M : Type 1} → statement M
 scorebucket-truncate-spec =

@@ -1,5 +1,5 @@
 -- `exports::cutting::scorebucket_truncate_front` meets its contract. Assumes nothing.
-use Rattle.exports.proofs.Crossing.{by-rule}
+use Rattle.replies.proofs.Crossing.{by-rule}
 use borrow.Author.Needs.{needs}
 use Rattle.exports.proofs.cutting.scorebucket_truncate_front.Statement.{statement}
 use Rattle.exports.proofs.cutting.scorebucket_truncate_front.Tie as tie
@@ -14,7 +14,9 @@ changed-requires : tie.Need-changed-requires
 changed-requires c κs = search needs
 
 returns : tie.Need-returns
-returns c = by-rule _ _ _ (c .before .before .before .deque-in .ensures) _ _ _ _ _ (c .changed .ensures) (c .before .truncate-front .ensures)
+returns c =
+    by-rule _ _ _ (c .before .before .before .deque-in .ensures) _ _ _ _ _ _ (c .changed .ensures)
+    (c .before .truncate-front .ensures)
 
 pub scorebucket-truncate-front-spec : {M : Type 1} → statement M
 scorebucket-truncate-front-spec =

@@ -1,6 +1,6 @@
 -- `exports::inserting::scorebucket_retain` meets its contract. Assumes nothing.
 use Rattle.exports.proofs.ByTest.{by-test, no-test}
-use Rattle.exports.proofs.Crossing.{by-rule}
+use Rattle.replies.proofs.Crossing.{by-rule}
 use Rattle.rules.specs.Middle.{retain}
 use borrow.Author.Needs.{needs}
 use Rattle.exports.proofs.inserting.scorebucket_retain.Statement.{statement}
@@ -25,7 +25,13 @@ same-length : tie.Need-same-length
 same-length c = search needs
 
 returns : tie.Need-returns
-returns c = by-test _ _ _ _ (c .before .before .before .before .before .before .before .before .before .test-of-kind .ensures) retain _ _ (c .before .before .before .before .before .before .before .test .given .1) (by-rule _ _ _ (c .before .before .before .before .before .before .before .before .before .before .deque-in .ensures) _ _ _ _ _ (c .changed .ensures) (c .before .before .before .retain .ensures))
+returns c =
+    by-test _ _ _ _ _
+    (c .before .before .before .before .before .before .before .before .before .test-of-kind .ensures) retain _ _
+    (c .before .before .before .before .before .before .before .test .given .1)
+    (by-rule _ _ _
+    (c .before .before .before .before .before .before .before .before .before .before .deque-in .ensures) _ _ _ _
+    _ _ (c .changed .ensures) (c .before .before .before .retain .ensures))
 
 enum-told : tie.Need-enum-told
 enum-told c = search needs
@@ -34,7 +40,9 @@ no-such-test-requires : tie.Need-no-such-test-requires
 no-such-test-requires c κs = search needs
 
 returns-2 : tie.Need-returns-2
-returns-2 c = no-test _ _ _ _ (c .before .before .before .test-of-kind .ensures) retain _ _ (c .before .before .before .before .deque-in .ensures) (c .before .enum-told .given .1) (c .no-such-test .ensures)
+returns-2 c =
+    no-test _ _ _ _ _ (c .before .before .before .test-of-kind .ensures) retain _ _
+    (c .before .before .before .before .deque-in .ensures) (c .before .enum-told .given .1) (c .no-such-test .ensures)
 
 pub scorebucket-retain-spec : {M : Type 1} → statement M
 scorebucket-retain-spec =

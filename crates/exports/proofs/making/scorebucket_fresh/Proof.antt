@@ -1,5 +1,5 @@
 -- `exports::making::scorebucket_fresh` meets its contract. Assumes nothing.
-use Rattle.exports.proofs.Crossing.{changes}
+use Rattle.replies.proofs.Crossing.{changes}
 use Rattle.replies.specs.InC.{makingInC}
 use borrow.Author.Needs.{needs}
 use Rattle.exports.proofs.making.scorebucket_fresh.Statement.{statement}

@@ -1,5 +1,5 @@
 -- `exports::popping::scorebucket_pop_back` meets its contract. Assumes nothing.
-use Rattle.exports.proofs.Crossing.{by-rule}
+use Rattle.replies.proofs.Crossing.{by-rule}
 use borrow.Author.Needs.{needs}
 use Rattle.exports.proofs.popping.scorebucket_pop_back.Statement.{statement}
 use Rattle.exports.proofs.popping.scorebucket_pop_back.Tie as tie
@@ -14,7 +14,9 @@ handed-requires : tie.Need-handed-requires
 handed-requires c κs = search needs
 
 returns : tie.Need-returns
-returns c = by-rule _ _ _ (c .before .before .before .deque-in .ensures) _ _ _ _ _ (c .handed .ensures) (c .before .pop-back .ensures)
+returns c =
+    by-rule _ _ _ (c .before .before .before .deque-in .ensures) _ _ _ _ _ _ (c .handed .ensures)
+    (c .before .pop-back .ensures)
 
 pub scorebucket-pop-back-spec : {M : Type 1} → statement M
 scorebucket-pop-back-spec =

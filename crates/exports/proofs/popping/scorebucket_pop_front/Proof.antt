@@ -1,5 +1,5 @@
 -- `exports::popping::scorebucket_pop_front` meets its contract. Assumes nothing.
-use Rattle.exports.proofs.Crossing.{by-rule}
+use Rattle.replies.proofs.Crossing.{by-rule}
 use borrow.Author.Needs.{needs}
 use Rattle.exports.proofs.popping.scorebucket_pop_front.Statement.{statement}
 use Rattle.exports.proofs.popping.scorebucket_pop_front.Tie as tie
@@ -14,7 +14,9 @@ handed-requires : tie.Need-handed-requires
 handed-requires c κs = search needs
 
 returns : tie.Need-returns
-returns c = by-rule _ _ _ (c .before .before .before .deque-in .ensures) _ _ _ _ _ (c .handed .ensures) (c .before .pop-front .ensures)
+returns c =
+    by-rule _ _ _ (c .before .before .before .deque-in .ensures) _ _ _ _ _ _ (c .handed .ensures)
+    (c .before .pop-front .ensures)
 
 pub scorebucket-pop-front-spec : {M : Type 1} → statement M
 scorebucket-pop-front-spec =

@@ -1,6 +1,6 @@
 -- `exports::popping::scorebucket_pop_front_if` meets its contract. Assumes nothing.
 use Rattle.exports.proofs.ByTest.{by-test, no-test}
-use Rattle.exports.proofs.Crossing.{by-rule}
+use Rattle.replies.proofs.Crossing.{by-rule}
 use Rattle.rules.specs.Ends.{popFrontIf}
 use borrow.Author.Needs.{needs}
 use Rattle.exports.proofs.popping.scorebucket_pop_front_if.Statement.{statement}
@@ -22,7 +22,11 @@ handed-requires : tie.Need-handed-requires
 handed-requires c κs = search needs
 
 returns : tie.Need-returns
-returns c = by-test _ _ _ _ (c .before .before .before .before .before .before .test-of-kind .ensures) popFrontIf _ _ (c .before .before .before .before .test .given .1) (by-rule _ _ _ (c .before .before .before .before .before .before .before .deque-in .ensures) _ _ _ _ _ (c .handed .ensures) (c .before .pop-front-if .ensures))
+returns c =
+    by-test _ _ _ _ _ (c .before .before .before .before .before .before .test-of-kind .ensures) popFrontIf _ _
+    (c .before .before .before .before .test .given .1)
+    (by-rule _ _ _ (c .before .before .before .before .before .before .before .deque-in .ensures) _ _ _ _ _ _
+    (c .handed .ensures) (c .before .pop-front-if .ensures))
 
 enum-told : tie.Need-enum-told
 enum-told c = search needs
@@ -31,7 +35,9 @@ no-such-test-requires : tie.Need-no-such-test-requires
 no-such-test-requires c κs = search needs
 
 returns-2 : tie.Need-returns-2
-returns-2 c = no-test _ _ _ _ (c .before .before .before .test-of-kind .ensures) popFrontIf _ _ (c .before .before .before .before .deque-in .ensures) (c .before .enum-told .given .1) (c .no-such-test .ensures)
+returns-2 c =
+    no-test _ _ _ _ _ (c .before .before .before .test-of-kind .ensures) popFrontIf _ _
+    (c .before .before .before .before .deque-in .ensures) (c .before .enum-told .given .1) (c .no-such-test .ensures)
 
 pub scorebucket-pop-front-if-spec : {M : Type 1} → statement M
 scorebucket-pop-front-if-spec =

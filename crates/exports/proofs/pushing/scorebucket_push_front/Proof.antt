@@ -1,5 +1,5 @@
 -- `exports::pushing::scorebucket_push_front` meets its contract. Assumes nothing.
-use Rattle.exports.proofs.Crossing.{by-rule}
+use Rattle.replies.proofs.Crossing.{by-rule}
 use borrow.Author.Needs.{needs}
 use Rattle.exports.proofs.pushing.scorebucket_push_front.Statement.{statement}
 use Rattle.exports.proofs.pushing.scorebucket_push_front.Tie as tie
@@ -17,7 +17,9 @@ same-length : tie.Need-same-length
 same-length c = search needs
 
 returns : tie.Need-returns
-returns c = by-rule _ _ _ (c .before .before .before .before .before .before .deque-in .ensures) _ _ _ _ _ (c .changed .ensures) (c .before .before .before .push-front .ensures)
+returns c =
+    by-rule _ _ _ (c .before .before .before .before .before .before .deque-in .ensures) _ _ _ _ _ _
+    (c .changed .ensures) (c .before .before .before .push-front .ensures)
 
 pub scorebucket-push-front-spec : {M : Type 1} → statement M
 scorebucket-push-front-spec =

@@ -1,7 +1,7 @@
 -- `replies::changes::handed` meets its contract. Assumes nothing.
-use mathlib.Core.Path.{refl, ap}
-use Rattle.rules.specs.Outcome.{shut}
-use Rattle.replies.proofs.Arms.{arm-two}
+use mathlib.Core.Path.{refl}
+use Rattle.rules.specs.Tests.{unless}
+use Rattle.replies.proofs.Arms.{arm-two, stays}
 use Rattle.replies.specs.InC.{answerInC}
 use Rattle.elements.specs.Answers.{ofHanded}
 use borrow.Author.Needs.{needs}
@@ -29,20 +29,25 @@ done-requires c κs = search needs
 enum-known-handed-3 : tie.Need-enum-known-handed-3
 enum-known-handed-3 c = search needs
 
-store-deque-requires-3 : tie.Need-store-deque-requires-3
-store-deque-requires-3 c κs = search needs
-
 refuses-requires : tie.Need-refuses-requires
 refuses-requires c κs = search needs
 
 returns : tie.Need-returns
-returns c = arm-two answerInC ofHanded _ _ _ _ _ _ (c .hands .ensures) (ap shut (c .before .store-deque .ensures)) refl (c .before .before .before .before .handed .given .1)
+unfolding unless
+returns c =
+    arm-two (answerInC _) ofHanded _ _ _ _ _ _ (c .hands .ensures) (c .before .store-deque .ensures) refl
+    (c .before .before .before .before .handed .given .1)
 
 returns-2 : tie.Need-returns-2
-returns-2 c = arm-two answerInC ofHanded _ _ _ _ _ _ (c .done .ensures) (ap shut (c .before .store-deque2 .ensures)) refl (c .before .before .before .before .handed2 .given .1)
+unfolding unless
+returns-2 c =
+    arm-two (answerInC _) ofHanded _ _ _ _ _ _ (c .done .ensures) (c .before .store-deque2 .ensures) refl
+    (c .before .before .before .before .handed2 .given .1)
 
 returns-3 : tie.Need-returns-3
-returns-3 c = arm-two answerInC ofHanded _ _ _ _ _ _ (c .refuses .ensures) (ap shut (c .before .store-deque3 .ensures)) refl (c .before .before .before .before .handed3 .given .1)
+returns-3 c =
+    arm-two (answerInC _) ofHanded _ _ _ _ _ _ (c .refuses .ensures) refl (stays _ _ _ _)
+    (c .before .before .handed3 .given .1)
 
 pub handed-spec : {M : Type 1} → statement M
 handed-spec =
@@ -55,7 +60,6 @@ handed-spec =
     store-deque-requires-2
     done-requires
     enum-known-handed-3
-    store-deque-requires-3
     refuses-requires
     returns
     returns-2

@@ -1,6 +1,7 @@
 -- `replies::changes::split` meets its contract. Assumes nothing.
 use mathlib.Core.Path.{refl}
-use Rattle.replies.proofs.Arms.{arm-three}
+use Rattle.rules.specs.Tests.{unless}
+use Rattle.replies.proofs.Arms.{arm-three, stay}
 use Rattle.replies.specs.InC.{pairingInC}
 use Rattle.queue.specs.Pairs.{ofSplit}
 use borrow.Author.Needs.{needs}
@@ -22,17 +23,20 @@ done-requires c κs = search needs
 enum-known-split-2 : tie.Need-enum-known-split-2
 enum-known-split-2 c = search needs
 
-store-deque-requires-3 : tie.Need-store-deque-requires-3
-store-deque-requires-3 c κs = search needs
-
 refuses-requires : tie.Need-refuses-requires
 refuses-requires c κs = search needs
 
 returns : tie.Need-returns
-returns c = arm-three (pairingInC _) ofSplit _ _ _ _ _ _ _ _ (c .done .ensures) (c .before .before .before .store-deque .ensures) (c .before .store-deque2 .ensures) refl (c .before .before .before .before .before .before .split .given .1)
+unfolding unless
+returns c =
+    arm-three (pairingInC _ _) ofSplit _ _ _ _ _ _ _ _ (c .done .ensures)
+    (c .before .before .before .store-deque .ensures) (c .before .store-deque2 .ensures) refl
+    (c .before .before .before .before .before .before .split .given .1)
 
 returns-2 : tie.Need-returns-2
-returns-2 c = arm-three (pairingInC _) ofSplit _ _ _ _ _ _ _ _ (c .refuses .ensures) (c .before .store-deque3 .ensures) refl refl (c .before .before .before .before .split2 .given .1)
+returns-2 c =
+    arm-three (pairingInC _ _) ofSplit _ _ _ _ _ _ _ _ (c .refuses .ensures) refl refl (stay _ _ _ _ _ _)
+    (c .before .before .split2 .given .1)
 
 pub split-spec : {M : Type 1} → statement M
 split-spec =
@@ -43,7 +47,6 @@ split-spec =
     store-deque-requires-2
     done-requires
     enum-known-split-2
-    store-deque-requires-3
     refuses-requires
     returns
     returns-2)

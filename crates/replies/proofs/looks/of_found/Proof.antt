@@ -1,7 +1,7 @@
 -- `replies::looks::of_found` meets its contract. Assumes nothing.
 use mathlib.Core.Path.{refl}
 use Rattle.replies.proofs.Arms.{arm, arm-refused}
-use Rattle.replies.specs.InC.{seenInC}
+use Rattle.replies.specs.InC.{foundInC}
 use Rattle.elements.specs.Answers.{ofFound}
 use borrow.Author.Needs.{needs}
 use Rattle.replies.proofs.looks.of_found.Statement.{statement}
@@ -20,13 +20,13 @@ number-of-requires : tie.Need-number-of-requires
 number-of-requires c κs = search needs
 
 returns : tie.Need-returns
-returns c = arm seenInC ofFound _ _ (c .before .found .given .1)
+returns c = arm foundInC ofFound _ _ (c .before .found .given .1)
 
 returns-2 : tie.Need-returns-2
-returns-2 c = arm seenInC ofFound _ _ (c .enum-told .given .1)
+returns-2 c = arm foundInC ofFound _ _ (c .enum-told .given .1)
 
 returns-3 : tie.Need-returns-3
-returns-3 c = arm-refused seenInC ofFound _ _ _ _ _ (c .number-of .ensures) refl (c .before .before .found2 .given .1)
+returns-3 c = arm-refused foundInC ofFound _ _ _ _ _ (c .number-of .ensures) refl (c .before .before .found2 .given .1)
 
 pub of-found-spec : {M : Type 1} → statement M
 of-found-spec =

@@ -1,7 +1,8 @@
 -- `replies::opens::closed` meets its contract. Assumes nothing.
 use mathlib.Core.Path.{refl}
-use Rattle.replies.proofs.Arms.{arm-two}
-use Rattle.replies.specs.InC.{closingInC}
+use Rattle.rules.specs.Tests.{unless}
+use Rattle.replies.proofs.Arms.{arm-two, stays}
+use Rattle.replies.specs.InC.{answerInC}
 use Rattle.queue.specs.Drains.{ofClosed}
 use borrow.Author.Needs.{needs}
 use Rattle.replies.proofs.opens.closed.Statement.{statement}
@@ -23,10 +24,15 @@ refuses-requires : tie.Need-refuses-requires
 refuses-requires c κs = search needs
 
 returns : tie.Need-returns
-returns c = arm-two (closingInC _) ofClosed _ _ _ _ _ _ (c .done .ensures) (c .before .store-deque .ensures) refl (c .before .before .before .before .closed .given .1)
+unfolding unless
+returns c =
+    arm-two (answerInC _) ofClosed _ _ _ _ _ _ (c .done .ensures) (c .before .store-deque .ensures) refl
+    (c .before .before .before .before .closed .given .1)
 
 returns-2 : tie.Need-returns-2
-returns-2 c = arm-two (closingInC _) ofClosed _ _ _ _ _ _ (c .refuses .ensures) refl refl (c .before .before .closed2 .given .1)
+returns-2 c =
+    arm-two (answerInC _) ofClosed _ _ _ _ _ _ (c .refuses .ensures) refl (stays _ _ _ _)
+    (c .before .before .closed2 .given .1)
 
 pub closed-spec : {M : Type 1} → statement M
 closed-spec =

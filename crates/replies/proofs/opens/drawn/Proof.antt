@@ -1,7 +1,7 @@
 -- `replies::opens::drawn` meets its contract. Assumes nothing.
-use mathlib.Core.Path.{refl, ap}
-use Rattle.rules.specs.Outcome.{drawn}
-use Rattle.replies.proofs.Arms.{arm-two}
+use mathlib.Core.Path.{refl}
+use Rattle.rules.specs.Tests.{unless}
+use Rattle.replies.proofs.Arms.{arm-two, stays}
 use Rattle.replies.specs.InC.{answerInC}
 use Rattle.elements.specs.Answers.{ofDrawn}
 use borrow.Author.Needs.{needs}
@@ -29,20 +29,25 @@ done-requires c κs = search needs
 enum-known-draw-3 : tie.Need-enum-known-draw-3
 enum-known-draw-3 c = search needs
 
-store-drain-requires-3 : tie.Need-store-drain-requires-3
-store-drain-requires-3 c κs = search needs
-
 refuses-requires : tie.Need-refuses-requires
 refuses-requires c κs = search needs
 
 returns : tie.Need-returns
-returns c = arm-two answerInC ofDrawn _ _ _ _ _ _ (c .hands .ensures) (ap drawn (c .before .store-drain .ensures)) refl (c .before .before .before .before .draw .given .1)
+unfolding unless
+returns c =
+    arm-two (answerInC _) ofDrawn _ _ _ _ _ _ (c .hands .ensures) (c .before .store-drain .ensures) refl
+    (c .before .before .before .before .draw .given .1)
 
 returns-2 : tie.Need-returns-2
-returns-2 c = arm-two answerInC ofDrawn _ _ _ _ _ _ (c .done .ensures) (ap drawn (c .before .store-drain2 .ensures)) refl (c .before .before .before .before .draw2 .given .1)
+unfolding unless
+returns-2 c =
+    arm-two (answerInC _) ofDrawn _ _ _ _ _ _ (c .done .ensures) (c .before .store-drain2 .ensures) refl
+    (c .before .before .before .before .draw2 .given .1)
 
 returns-3 : tie.Need-returns-3
-returns-3 c = arm-two answerInC ofDrawn _ _ _ _ _ _ (c .refuses .ensures) (ap drawn (c .before .store-drain3 .ensures)) refl (c .before .before .before .before .draw3 .given .1)
+returns-3 c =
+    arm-two (answerInC _) ofDrawn _ _ _ _ _ _ (c .refuses .ensures) refl (stays _ _ _ _)
+    (c .before .before .draw3 .given .1)
 
 pub drawn-spec : {M : Type 1} → statement M
 drawn-spec =
@@ -55,7 +60,6 @@ drawn-spec =
     store-drain-requires-2
     done-requires
     enum-known-draw-3
-    store-drain-requires-3
     refuses-requires
     returns
     returns-2

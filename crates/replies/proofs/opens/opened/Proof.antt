@@ -1,7 +1,8 @@
 -- `replies::opens::opened` meets its contract. Assumes nothing.
 use mathlib.Core.Path.{refl}
-use Rattle.replies.proofs.Arms.{arm-two}
-use Rattle.replies.specs.InC.{openingInC}
+use Rattle.rules.specs.Tests.{unless}
+use Rattle.replies.proofs.Arms.{arm-two, stays}
+use Rattle.replies.specs.InC.{answerInC}
 use Rattle.queue.specs.Drains.{ofOpened}
 use borrow.Author.Needs.{needs}
 use Rattle.replies.proofs.opens.opened.Statement.{statement}
@@ -23,10 +24,15 @@ refuses-requires : tie.Need-refuses-requires
 refuses-requires c κs = search needs
 
 returns : tie.Need-returns
-returns c = arm-two (openingInC _) ofOpened _ _ _ _ _ _ (c .done .ensures) (c .before .store-drain .ensures) refl (c .before .before .before .before .opened .given .1)
+unfolding unless
+returns c =
+    arm-two (answerInC _) ofOpened _ _ _ _ _ _ (c .done .ensures) (c .before .store-drain .ensures) refl
+    (c .before .before .before .before .opened .given .1)
 
 returns-2 : tie.Need-returns-2
-returns-2 c = arm-two (openingInC _) ofOpened _ _ _ _ _ _ (c .refuses .ensures) refl refl (c .before .before .opened2 .given .1)
+returns-2 c =
+    arm-two (answerInC _) ofOpened _ _ _ _ _ _ (c .refuses .ensures) refl (stays _ _ _ _)
+    (c .before .before .opened2 .given .1)
 
 pub opened-spec : {M : Type 1} → statement M
 opened-spec =

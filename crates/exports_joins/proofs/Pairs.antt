@@ -1,0 +1,39 @@
+-- An exported call that opens a drain, or is on two queues, answers as the call below it: r is the record that the call
+-- below was given, r′ the one in the caller's words, old those words, p what is said. Assumes nothing.
+use mathlib.Core.List.{List}
+use mathlib.Core.Path.{_≡_, _∙_, ap}
+use Prim.Native.Nat.{ℕ}
+use Rattle.replies.proofs.Crossing.{on-record}
+use Rattle.replies.specs.InC.{Said, answerInC, toldInC, pairingInC, pairingToldInC}
+use Rattle.rules.specs.Outcome.{Answer, doOpen, told}
+use Rattle.rules.specs.Pairs.{Pairing, Paired, toldPairing, doAppend, doSplit}
+use Rattle.rules.specs.Records.{Rec}
+
+abbrev Words : Type 0
+Words = List ℕ
+
+module _ (b : List ℕ) (r r′ : Rec) (same : r ≡ r′) (old : Words) (p : Said) where
+  pub opens : (x y : ℕ) (w : Words) (a : Answer) (s : List ℕ) → (p, w) ≡ answerInC old a
+      → (a, s) ≡ told (doOpen b r x y) → (p, w, s) ≡ toldInC old (doOpen b r′ x y)
+  opens x y w a s flat is =
+      on-record old p w a s (doOpen b r x y) (doOpen b r′ x y) (ap (λ (z : Rec). doOpen b z x y) same) flat is
+
+  -- two records, w′ the other's words, and the slots s and t
+  pairs : (old′ w w′ : Words) (a : Pairing) (s t : List ℕ) (m m′ : Paired) → m ≡ m′ → (p, w, w′) ≡ pairingInC old old′ a
+      → (a, s, t) ≡ toldPairing m → (p, w, w′, s, t) ≡ pairingToldInC old old′ m′
+  pairs old′ w w′ a s t m m′ is-same flat is =
+      ap (λ (q : Said × Words × Words). (q .0, q .1, q .2, s, t)) flat
+      ∙ ap (λ (q : Pairing × List ℕ × List ℕ). let f = pairingInC old old′ (q .0) in (f .0, f .1, f .2, q .1, q .2)) is
+      ∙ ap (λ (x : Paired). pairingToldInC old old′ x) is-same
+
+  pub appends : (b′ : List ℕ) (o o′ : Rec) → o ≡ o′ → (old′ w w′ : Words) (a : Pairing) (s t : List ℕ)
+      → (p, w, w′) ≡ pairingInC old old′ a → (a, s, t) ≡ toldPairing (doAppend b r b′ o) → (p, w, w′, s, t) ≡ pairingToldInC old old′ (doAppend b r′ b′ o′)
+  appends b′ o o′ others old′ w w′ a s t flat is =
+      pairs old′ w w′ a s t (doAppend b r b′ o) (doAppend b r′ b′ o′)
+      (ap (λ (x : Rec). doAppend b x b′ o) same ∙ ap (λ (x : Rec). doAppend b r′ b′ x) others)
+      flat is
+
+  pub splits : (b′ : List ℕ) (n : ℕ) (old′ w w′ : Words) (a : Pairing) (s t : List ℕ)
+      → (p, w, w′) ≡ pairingInC old old′ a → (a, s, t) ≡ toldPairing (doSplit b r b′ n) → (p, w, w′, s, t) ≡ pairingToldInC old old′ (doSplit b r′ b′ n)
+  splits b′ n old′ w w′ a s t flat is =
+      pairs old′ w w′ a s t (doSplit b r b′ n) (doSplit b r′ b′ n) (ap (λ (x : Rec). doSplit b x b′ n) same) flat is

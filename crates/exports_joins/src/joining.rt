@@ -1,0 +1,113 @@
+// The calls that join lists.
+use replies::RECORD;
+use replies::Reply;
+use replies::changed;
+use replies::deque_in;
+use replies::joined;
+use replies::split;
+ghost use mathlib.Core.Path.{_≡_};
+ghost use Rattle.rules.specs.Joins.{extendWith, prepend, extendFront, resize};
+ghost use Rattle.rules.specs.Pairs.{doAppend, doSplit};
+ghost use Rattle.rules.specs.Outcome.{doRule};
+ghost use Rattle.replies.specs.InC.{toldInC, pairingToldInC};
+ghost use Rattle.replies.specs.Records.{recIn};
+ghost use Rattle.replies.specs.Replies.{ofReply};
+
+// Appends the values.
+#[no_mangle]
+pub extern "C" fn scorebucket_extend(
+    slots: &mut [u32],
+    q: &mut [usize; RECORD],
+    values: &[u32],
+) -> Reply
+    ensures { λ r. ⌜ (ofReply r, now (q .exit), now (slots .exit))
+        ≡ toldInC (now (q .entry))
+        (doRule (now (slots .entry)) (recIn (now (q .entry))) (extendWith (now (values .entry)))) ⌝ }
+{
+    let before = deque_in(q);
+    changed(q, extends::extend(slots, before, values))
+}
+
+// Puts the values in front, in their order.
+#[no_mangle]
+pub extern "C" fn scorebucket_prepend(
+    slots: &mut [u32],
+    q: &mut [usize; RECORD],
+    values: &[u32],
+) -> Reply
+    ensures { λ r. ⌜ (ofReply r, now (q .exit), now (slots .exit))
+        ≡ toldInC (now (q .entry))
+        (doRule (now (slots .entry)) (recIn (now (q .entry))) (prepend (now (values .entry)))) ⌝ }
+{
+    let before = deque_in(q);
+    changed(q, extends::prepend(slots, before, values))
+}
+
+// Puts the values in front, the last of them first.
+#[no_mangle]
+pub extern "C" fn scorebucket_extend_front(
+    slots: &mut [u32],
+    q: &mut [usize; RECORD],
+    values: &[u32],
+) -> Reply
+    ensures { λ r. ⌜ (ofReply r, now (q .exit), now (slots .exit))
+        ≡ toldInC (now (q .entry))
+        (doRule (now (slots .entry)) (recIn (now (q .entry))) (extendFront (now (values .entry)))) ⌝ }
+{
+    let before = deque_in(q);
+    changed(q, extends::extend_front(slots, before, values))
+}
+
+// Truncates to the first n elements, or appends copies of v up to n.
+#[no_mangle]
+pub extern "C" fn scorebucket_resize(
+    slots: &mut [u32],
+    q: &mut [usize; RECORD],
+    n: usize,
+    v: u32,
+) -> Reply
+    ensures { λ r. ⌜ (ofReply r, now (q .exit), now (slots .exit))
+        ≡ toldInC (now (q .entry)) (doRule (now (slots .entry)) (recIn (now (q .entry))) (resize n v)) ⌝ }
+{
+    let before = deque_in(q);
+    changed(q, extends::resize(slots, before, n, v))
+}
+
+// Copies the other queue's elements behind ours, and empties the other.
+#[no_mangle]
+pub extern "C" fn scorebucket_append(
+    slots: &mut [u32],
+    q: &mut [usize; RECORD],
+    other_slots: &[u32],
+    other: &mut [usize; RECORD],
+) -> Reply
+    ensures { λ r. ⌜ (ofReply r, now (q .exit), now (other .exit), now (slots .exit), now («other_slots» .entry))
+        ≡ pairingToldInC (now (q .entry)) (now (other .entry))
+        (doAppend (now (slots .entry)) (recIn (now (q .entry)))
+        (now («other_slots» .entry)) (recIn (now (other .entry)))) ⌝ }
+{
+    let before = deque_in(q);
+    let other_before = deque_in(other);
+    joined(
+        q,
+        other,
+        joins::append(slots, before, other_slots, other_before),
+    )
+}
+
+// Fills a bare target with the elements from position `at` on, and its record, which leaves the first `at` in ours.
+#[no_mangle]
+pub extern "C" fn scorebucket_split_off(
+    slots: &[u32],
+    q: &mut [usize; RECORD],
+    at: usize,
+    target: &mut [u32],
+    t: &mut [usize; RECORD],
+) -> Reply
+    ensures { λ r. ⌜ (ofReply r, now (q .exit), now (t .exit), now (slots .entry), now (target .exit))
+        ≡ pairingToldInC (now (q .entry)) (now (t .entry))
+        (doSplit (now (slots .entry)) (recIn (now (q .entry))) (now (target .entry)) at) ⌝ }
+{
+    let before = deque_in(q);
+    split(q, t, joins::split_off(slots, before, at, target))
+}
