@@ -17,7 +17,7 @@ pub extern "C" fn scorebucket_truncate(slots: &[u32], q: &mut [usize; RECORD], n
         ≡ toldInC (now (q .entry)) (doRule (now (slots .entry)) (recIn (now (q .entry))) (truncate n)) ⌝ }
 {
     let before = deque_in(q);
-    changed(q, cuts::truncate(slots, before, n))
+    changed(q, ends::truncate(slots, before, n))
 }
 
 // Keeps the last n.
@@ -31,7 +31,7 @@ pub extern "C" fn scorebucket_truncate_front(
         ≡ toldInC (now (q .entry)) (doRule (now (slots .entry)) (recIn (now (q .entry))) (truncateFront n)) ⌝ }
 {
     let before = deque_in(q);
-    changed(q, cuts::truncate_front(slots, before, n))
+    changed(q, ends::truncate_front(slots, before, n))
 }
 
 // Keeps none.
@@ -41,5 +41,5 @@ pub extern "C" fn scorebucket_clear(slots: &[u32], q: &mut [usize; RECORD]) -> R
         ≡ toldInC (now (q .entry)) (doRule (now (slots .entry)) (recIn (now (q .entry))) clear) ⌝ }
 {
     let before = deque_in(q);
-    changed(q, cuts::clear(slots, before))
+    changed(q, ends::clear(slots, before))
 }

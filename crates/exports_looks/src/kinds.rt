@@ -1,10 +1,10 @@
 // What `partition_point` by a test of unknown kind answers.
 use queue::Checked;
 use queue::Deque;
+use queue::Point;
 use queue::Refusal;
 use replies::CountReply;
 use replies::of_point;
-use queue::Point;
 ghost use mathlib.Core.Path.{_≡_};
 ghost use Rattle.replies.specs.InC.{countInC};
 ghost use Rattle.replies.specs.Replies.{ofCountReply};

@@ -15,7 +15,7 @@ pub extern "C" fn scorebucket_get(slots: &[u32], q: &[usize; RECORD], i: usize) 
         ≡ foundInC (lookAt (now (slots .entry)) (recIn (now (q .entry))) (atPosition i)) ⌝ }
 {
     let queue = deque_in(q);
-    replies::of_found(looks::get(slots, queue, i))
+    replies::of_found(ends::get(slots, queue, i))
 }
 
 // The first element.
@@ -25,7 +25,7 @@ pub extern "C" fn scorebucket_front(slots: &[u32], q: &[usize; RECORD]) -> Found
         ≡ foundInC (lookAt (now (slots .entry)) (recIn (now (q .entry))) (atPosition 0)) ⌝ }
 {
     let queue = deque_in(q);
-    replies::of_found(looks::front(slots, queue))
+    replies::of_found(ends::front(slots, queue))
 }
 
 // The last element.
@@ -34,5 +34,5 @@ pub extern "C" fn scorebucket_back(slots: &[u32], q: &[usize; RECORD]) -> FoundR
     ensures { λ r. ⌜ ofFoundReply r ≡ foundInC (lookAt (now (slots .entry)) (recIn (now (q .entry))) atBack) ⌝ }
 {
     let queue = deque_in(q);
-    replies::of_found(looks::back(slots, queue))
+    replies::of_found(ends::back(slots, queue))
 }

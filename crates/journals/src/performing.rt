@@ -38,8 +38,8 @@ pub fn perform(slots: &mut [u32], q: Deque, operation: Operation) -> Answer
         Operation::PopFront => of_handed(ends::pop_front(slots, q)),
         Operation::PopBack => of_handed(ends::pop_back(slots, q)),
         Operation::Drain(start, end) => drain_closed(slots, q, start as usize, end as usize),
-        Operation::Truncate(n) => of_change(cuts::truncate(slots, q, n as usize)),
-        Operation::TruncateFront(n) => of_change(cuts::truncate_front(slots, q, n as usize)),
+        Operation::Truncate(n) => of_change(ends::truncate(slots, q, n as usize)),
+        Operation::TruncateFront(n) => of_change(ends::truncate_front(slots, q, n as usize)),
         Operation::Insert(index, v) => of_change(middle::insert(slots, q, index as usize, v)),
         Operation::Remove(index) => of_handed(middle::remove(slots, q, index as usize)),
     }

@@ -10,7 +10,7 @@ ghost use lib.ListN.{length};
 fn put_element(slots: &[u32], queue: Deque, i: usize, out: &mut [u8], written: Output) -> Output
     requires { ⌜ 105 ≤ length (now out) ⌝ }
 {
-    if let Found::Number(number) = looks::get(slots, queue, i) {
+    if let Found::Number(number) = ends::get(slots, queue, i) {
         let free = room(out, written);
         return Output {
             at: lines::put_word(out, free.at, number as usize),

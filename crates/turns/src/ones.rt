@@ -37,9 +37,9 @@ fn make_edit(slots: &mut [u32], q: Deque, edit: Edit) -> Change
     match edit {
         Edit::PushBack(v) => ends::push_back(slots, q, v),
         Edit::PushFront(v) => ends::push_front(slots, q, v),
-        Edit::Truncate(n) => cuts::truncate(slots, q, n),
-        Edit::TruncateFront(n) => cuts::truncate_front(slots, q, n),
-        Edit::Clear => cuts::clear(slots, q),
+        Edit::Truncate(n) => ends::truncate(slots, q, n),
+        Edit::TruncateFront(n) => ends::truncate_front(slots, q, n),
+        Edit::Clear => ends::clear(slots, q),
         Edit::Resize(n, v) => extends::resize(slots, q, n, v),
         Edit::Insert(i, v) => middle::insert(slots, q, i, v),
         Edit::Swap(i, j) => swaps::swap(slots, q, i, j),

@@ -14,18 +14,18 @@ pub use queue::Refusal;
 pub use conditions::Test;
 
 // The ends.
-pub use cuts::clear;
-pub use cuts::truncate;
-pub use cuts::truncate_front;
+pub use ends::back;
+pub use ends::clear;
+pub use ends::front;
+pub use ends::get;
 pub use ends::pop_back;
 pub use ends::pop_back_if;
 pub use ends::pop_front;
 pub use ends::pop_front_if;
 pub use ends::push_back;
 pub use ends::push_front;
-pub use looks::back;
-pub use looks::front;
-pub use looks::get;
+pub use ends::truncate;
+pub use ends::truncate_front;
 
 // An element in another's place.
 pub use swaps::swap;

@@ -2,9 +2,9 @@
 use mathlib.Core.Path.{_∙_}
 use native.Mathlib.Omega.{arith}
 use borrow.Author.Needs.{needs}
-use Rattle.looks.proofs.Laws.{last-wrapped}
-use Rattle.looks.proofs.back.Statement.{statement}
-use Rattle.looks.proofs.back.Tie as tie
+use Rattle.ends.proofs.looks.Laws.{last-wrapped}
+use Rattle.ends.proofs.looks.back.Statement.{statement}
+use Rattle.ends.proofs.looks.back.Tie as tie
 
 wrapping-sub-usize-requires : tie.Need-wrapping-sub-usize-requires
 wrapping-sub-usize-requires c κs = search needs

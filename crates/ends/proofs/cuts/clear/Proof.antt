@@ -3,12 +3,12 @@ use mathlib.Core.Path.{_≡_}
 use borrow.Author.Needs.{needs}
 use denote.Ref.{now}
 use lib.ListN.{length}
-use Rattle.cuts.proofs.Laws.{cleared}
+use Rattle.ends.proofs.cuts.Laws.{cleared}
 use Rattle.queue.proofs.Checks.{passed-zero, told-first}
 use Rattle.queue.specs.Answers.{recOf}
 use Rattle.rules.specs.Refusals.{onChange}
-use Rattle.cuts.proofs.clear.Statement.{statement}
-use Rattle.cuts.proofs.clear.Tie as tie
+use Rattle.ends.proofs.cuts.clear.Statement.{statement}
+use Rattle.ends.proofs.cuts.clear.Tie as tie
 
 -- past the first tests nothing is refused
 past : (c : tie.After-enum-told) → onChange (length (now (c .before .before .before .before .args .slots))) (recOf (c .before .before .before .before .args .q)) 0 ≡ 0
