@@ -22,7 +22,7 @@ use Rattle.exports.specs.Kinds.{refusedKind, doTested}
 
 -- a kind that is unknown is always refused
 kind-refused : (cap : ℕ) (r : Rec) → refusedKind cap r ≢ 0
-kind-refused cap r none-given = let none-left = change-ok cap r 3 none-given .1 in omega arith
+kind-refused cap r none-given = let none-left = change-ok cap r _ none-given .1 in omega arith
 
 -- old are the words of the record r
 module _ (b : List ℕ) (r : Rec) (old : List ℕ) (a : Asked) (o : Option Test) (told : ofAsked a ≡ o) where
