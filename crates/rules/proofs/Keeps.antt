@@ -1,9 +1,11 @@
--- What each call that can change one queue keeps, from any that a sequence leaves: as many slots, a fit queue, and the balance. Assumes nothing.
+-- What each call that can change one queue keeps, from any that a sequence leaves: as many slots, a fit queue, and the
+-- balance. Assumes nothing.
 use mathlib.Core.List.{List, [], _∷_}
 use mathlib.Core.Path.{_≡_, refl, _∙_}
 use Prim.Native.Nat.{ℕ, _+_, _≤_, suc, zero}
 use native.Mathlib.Omega.{arith}
 use lib.ListN.{length}
+use Rattle.rules.proofs.Calls.{lawful}
 use Rattle.rules.proofs.Count.{tally-nil}
 use Rattle.rules.proofs.Drains.{opened-good, opening-few, open-same, open-balance, GoodDrain, front-good, front-same, next-balance, idx-in, back-good, back-same, next-back-balance, last-in, close-balance}
 use Rattle.rules.proofs.Fit.{Fit, fit-shut, stands-shut, Leaves, left-held, op-leaves, fit-drawn, stands-drawn, close-leaves}
@@ -13,6 +15,7 @@ use Rattle.rules.proofs.Lawful.{Lawful}
 use Rattle.rules.proofs.Refusals.{Good, change-ok}
 use Rattle.rules.proofs.Slots.{length-lay}
 use Rattle.rules.proofs.Tests.{by-refusal}
+use Rattle.rules.specs.Calls.{rule}
 use Rattle.rules.specs.Count.{tally, asList}
 use Rattle.rules.specs.Drains.{opened, Drain, asOpened, during, fromFront, fromBack, closeDrain, onDrain}
 use Rattle.rules.specs.Images.{laidOut, howMany, elementsIn}
@@ -21,7 +24,7 @@ use Rattle.rules.specs.Outcome.{Held, Outcome, unchanged, shut, accepted
 use Rattle.rules.specs.Records.{Rec, held, newRec}
 use Rattle.rules.specs.Refusals.{onSlots, onLayout, room, onTaking, mostSlots}
 use Rattle.rules.specs.Rule.{Rule, after}
-use Rattle.rules.specs.Sequences.{stands, making, madeOr, DrainCall, doOnDrain, next, nextBack, close}
+use Rattle.rules.specs.Sequences.{stands, making, madeOr, QueueChange, op, freshly, reading, opening, doOnQueue, DrainCall, doOnDrain, next, nextBack, close}
 use Rattle.rules.specs.Slots.{lay}
 use Rattle.rules.specs.Tests.{unless}
 
@@ -80,7 +83,7 @@ module _ (b : List ℕ) (r : Rec) (g : Good (length b) r) where
       accepted-keeps b (shut r) r R (op-leaves b r R L e)
       (λ x. rw (stands-shut b r g) (L .balance x (length b) (held b r) (rw length-held (change-ok (length b) r _ e .1))))
 
-  pub keeps-op : (R : Rule) → Lawful R → Keeps b (shut r) (doRule b r R)
+  keeps-op : (R : Rule) → Lawful R → Keeps b (shut r) (doRule b r R)
   unfolding doRule
   keeps-op R L = by-refusal (refusal (length b) r R) (Keeps b (shut r)) (op-accepted R L) (keeps-same b (shut r) _ (fit-shut g))
 
@@ -99,11 +102,11 @@ module _ (b : List ℕ) (r : Rec) (g : Good (length b) r) where
   made-or-not zero l le = made-keeps l (le refl)
   made-or-not (suc n) l le = unmade-keeps n
 
-  pub keeps-fresh : Keeps b (shut r) (making b (shut r) (fresh b))
+  keeps-fresh : Keeps b (shut r) (making b (shut r) (fresh b))
   unfolding fresh
   keeps-fresh = made-or-not (onSlots (length b) 0) [] (λ e. omega arith)
 
-  pub keeps-reading : (s : List ℕ) → Keeps b (shut r) (making b (shut r) (readImage b s))
+  keeps-reading : (s : List ℕ) → Keeps b (shut r) (making b (shut r) (readImage b s))
   unfolding readImage
   keeps-reading s = made-or-not (onSlots (length b) (onLayout (laidOut s) (room (length b) (howMany s)))) (elementsIn s)
       (λ e. rw (length-elements s) (reading-fits (length b) s e))
@@ -118,9 +121,17 @@ module _ (b : List ℕ) (r : Rec) (g : Good (length b) r) where
         balance = λ x. rw (stands-shut b r g, stands-drawn b (opened r s e) d, open-same (length b) r s e z, open-balance x r s e (held b r));
       }
 
-  pub keeps-open : (s e : ℕ) → Keeps b (shut r) (doOpen b r s e)
+  keeps-open : (s e : ℕ) → Keeps b (shut r) (doOpen b r s e)
   unfolding doOpen
   keeps-open s e = by-refusal (onTaking (length b) r s e) (Keeps b (shut r)) (open-keeps s e) (keeps-same b (shut r) _ (fit-shut g))
+
+  -- each change of a queue
+  pub keeps-change : (k : QueueChange) → Keeps b (shut r) (doOnQueue b r k)
+  unfolding doOnQueue
+  keeps-change (op o) = keeps-op (rule o) (lawful o)
+  keeps-change freshly = keeps-fresh
+  keeps-change (reading s) = keeps-reading s
+  keeps-change (opening s e) = keeps-open s e
 
 module _ (b : List ℕ) (d : Drain) (few : length b ≤ mostSlots) (g : GoodDrain (length b) d) where
   -- the drain, now d′, has handed v over
@@ -155,7 +166,8 @@ module _ (b : List ℕ) (d : Drain) (few : length b ≤ mostSlots) (g : GoodDrai
   keeps-drain o k = by-refusal (onDrain (length b) d) (Keeps b (drawn d)) (λ e. k) (keeps-same b (drawn d) _ (fit-drawn few g))
 
 -- each call of an open drain
-pub keeps-drained : (b : List ℕ) (d : Drain) → length b ≤ mostSlots → GoodDrain (length b) d → (k : DrainCall) → Keeps b (drawn d) (doOnDrain b d k)
+pub keeps-drained : (b : List ℕ) (d : Drain) → length b ≤ mostSlots → GoodDrain (length b) d → (k : DrainCall)
+    → Keeps b (drawn d) (doOnDrain b d k)
 unfolding doOnDrain doNext doNextBack doClose
 keeps-drained b d few g next = keeps-drain b d few g _ (next-keeps b d few g (d .remaining) refl)
 keeps-drained b d few g nextBack = keeps-drain b d few g _ (next-back-keeps b d few g (d .remaining) refl)

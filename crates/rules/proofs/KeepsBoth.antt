@@ -6,10 +6,9 @@ use mathlib.Core.Path.{_≡_, refl}
 use Prim.Native.Nat.{ℕ, _+_}
 use native.Mathlib.Omega.{arith}
 use lib.ListN.{length}
-use Rattle.rules.proofs.Calls.{lawful}
 use Rattle.rules.proofs.Count.{tally-append, tally-nil, tally-split}
 use Rattle.rules.proofs.Fit.{Fit, fit-shut, stands-shut}
-use Rattle.rules.proofs.Keeps.{Keeps, keeps-op, keeps-fresh, keeps-reading, keeps-open, left-slots, left-fit, left-stands, made-fit, made-stands, keeps-drained}
+use Rattle.rules.proofs.Keeps.{Keeps, keeps-change, left-slots, left-fit, left-stands, made-fit, made-stands, keeps-drained}
 use Rattle.rules.proofs.Made.{map-made}
 use Rattle.rules.proofs.Pairs.{append-leaves, split-leaves}
 use Rattle.rules.proofs.Refusals.{Good}
@@ -17,7 +16,6 @@ use Rattle.rules.proofs.Slots.{length-lay}
 use Rattle.rules.proofs.Taken.{by-taken}
 use Rattle.rules.proofs.Tests.{unless-stop, by-either}
 use Rattle.rules.specs.Asks.{Sight}
-use Rattle.rules.specs.Calls.{rule}
 use Rattle.rules.specs.Count.{tally}
 use Rattle.rules.specs.Ends.{clear, truncate}
 use Rattle.rules.specs.Joins.{extendWith}
@@ -26,7 +24,7 @@ use Rattle.rules.specs.Makes.{madeWith}
 use Rattle.rules.specs.Outcome.{Held, Outcome, shut, drawn}
 use Rattle.rules.specs.Pairs.{onAppending, appended, crossing, doAppend, onSplitting, splitted, doSplit}
 use Rattle.rules.specs.Records.{Rec, held}
-use Rattle.rules.specs.Sequences.{Queue, CallStep, stands, stillStep, lookStep, queueOf, oneStep, QueueCall, queueStep, op, freshly, reading, opening, asking, madeOr, bothStep, PairCall, pairStep, appending, splitting, comparing, Call, firstStep, takenStep, Pair, step, sideA, facing, sideB, Turn, Side}
+use Rattle.rules.specs.Sequences.{Queue, CallStep, stands, stillStep, lookStep, queueOf, oneStep, QueueCall, queueStep, changing, asking, madeOr, bothStep, PairCall, pairStep, appending, splitting, comparing, Call, firstStep, takenStep, Pair, step, sideA, facing, sideB, Turn, Side}
 use Rattle.rules.specs.Tests.{unless}
 
 pub record Keeps2 (p q : Queue) (s : CallStep) : Type 0 where
@@ -38,26 +36,33 @@ pub record Keeps2 (p q : Queue) (s : CallStep) : Type 0 where
       ≡ tally x (stands (s .queues .a .slots) (s .queues .a .held)) + tally x (stands (s .queues .b .slots) (s .queues .b .held)) + tally x (s .left)
 
 -- passed over, or a look
-keeps-still : (p q : Queue) (n : ℕ) (s : Option Sight) → Fit (p .slots) (p .held) → Fit (q .slots) (q .held) → Keeps2 p q (stillStep p q n s)
+keeps-still : (p q : Queue) (n : ℕ) (s : Option Sight) → Fit (p .slots) (p .held) → Fit (q .slots) (q .held)
+    → Keeps2 p q (stillStep p q n s)
 unfolding stillStep
 keeps-still p q n s f f′ = record { slots-a = refl; slots-b = refl; fit-a = f; fit-b = f′; balance = λ x. refl }
 
-keeps-look : (p q : Queue) (l : Look Sight) → Fit (p .slots) (p .held) → Fit (q .slots) (q .held) → Keeps2 p q (lookStep p q l)
+keeps-look : (p q : Queue) (l : Look Sight) → Fit (p .slots) (p .held) → Fit (q .slots) (q .held)
+    → Keeps2 p q (lookStep p q l)
 unfolding lookStep
 keeps-look p q l f f′ = keeps-still p q _ _ f f′
 
 -- a call that leaves the second queue
-keeps-other : (b : List ℕ) (h : Held) (q : Queue) (o : Outcome) → Fit (q .slots) (q .held) → Keeps b h o → Keeps2 (queueOf b h) q (oneStep q o)
+keeps-other : (b : List ℕ) (h : Held) (q : Queue) (o : Outcome) → Fit (q .slots) (q .held) → Keeps b h o
+    → Keeps2 (queueOf b h) q (oneStep q o)
 unfolding oneStep
-keeps-other b h q o f′ k = record { slots-a = k .slots; slots-b = refl; fit-a = k .fit; fit-b = f′; balance = λ x. omega (arith, k .balance x) }
+keeps-other b h q o f′ k = record {
+  slots-a = k .slots;
+  slots-b = refl;
+  fit-a = k .fit;
+  fit-b = f′;
+  balance = λ x. omega (arith, k .balance x);
+}
 
 -- each call on a queue
-keeps-queue : (b : List ℕ) (r : Rec) (q : Queue) → Good (length b) r → Fit (q .slots) (q .held) → (k : QueueCall) → Keeps2 (queueOf b (shut r)) q (queueStep (queueOf b (shut r)) q r k)
+keeps-queue : (b : List ℕ) (r : Rec) (q : Queue) → Good (length b) r → Fit (q .slots) (q .held) → (k : QueueCall)
+    → Keeps2 (queueOf b (shut r)) q (queueStep (queueOf b (shut r)) q r k)
 unfolding queueStep
-keeps-queue b r q g f′ (op o) = keeps-other b _ q _ f′ (keeps-op b r g (rule o) (lawful o))
-keeps-queue b r q g f′ freshly = keeps-other b _ q _ f′ (keeps-fresh b r g)
-keeps-queue b r q g f′ (reading s) = keeps-other b _ q _ f′ (keeps-reading b r g s)
-keeps-queue b r q g f′ (opening s e) = keeps-other b _ q _ f′ (keeps-open b r g s e)
+keeps-queue b r q g f′ (changing k) = keeps-other b _ q _ f′ (keeps-change b r g k)
 keeps-queue b r q g f′ (asking a) = keeps-look _ q _ (fit-shut g) f′
 
 made-some : (h : Held) (r : Rec) → madeOr h (some r) ≡ shut r
@@ -116,7 +121,8 @@ module _ (b : List ℕ) (r : Rec) (g : Good (length b) r) (b′ : List ℕ) (r�
       (λ ne. refused-keeps _ none _ ne (made-none (shut r′)))
 
   -- each call on both
-  keeps-pair : (k : PairCall) → Keeps2 (queueOf b (shut r)) (queueOf b′ (shut r′)) (pairStep (queueOf b (shut r)) (queueOf b′ (shut r′)) r r′ k)
+  keeps-pair : (k : PairCall)
+      → Keeps2 (queueOf b (shut r)) (queueOf b′ (shut r′)) (pairStep (queueOf b (shut r)) (queueOf b′ (shut r′)) r r′ k)
   unfolding pairStep
   keeps-pair appending = keeps-append
   keeps-pair (splitting at) = keeps-split at
@@ -126,7 +132,8 @@ module _ (b : List ℕ) (r : Rec) (g : Good (length b) r) (b′ : List ℕ) (r�
 pub keeps-first : (p q : Queue) → Fit (p .slots) (p .held) → Fit (q .slots) (q .held) → (k : Call) → Keeps2 p q (firstStep p q k)
 unfolding firstStep takenStep
 keeps-first p q f f′ k =
-    by-taken f f′ k (λ h h′ t. Keeps2 (queueOf (p .slots) h) (queueOf (q .slots) h′) (takenStep (queueOf (p .slots) h) (queueOf (q .slots) h′) t))
+    by-taken f f′ k
+    (λ h h′ t. let p′ = queueOf (p .slots) h in let q′ = queueOf (q .slots) h′ in Keeps2 p′ q′ (takenStep p′ q′ t))
     (keeps-still p q 0 none f f′)
     (λ r g c. keeps-queue (p .slots) r q g f′ c)
     (λ d few g c. keeps-other (p .slots) (drawn d) q _ f′ (keeps-drained (p .slots) d few g c))

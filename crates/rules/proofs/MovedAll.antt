@@ -22,12 +22,12 @@ use Rattle.rules.specs.Calls.{Op, rule, pushBack!, pushFront!, popFront!
 use Rattle.rules.specs.Drains.{Drain, during, handable, spread, opened, fromFront, fromBack, asOpened, closeDrain, onDrain}
 use Rattle.rules.specs.Images.{elementsIn, laidOut, howMany}
 use Rattle.rules.specs.Makes.{madeWith, noneMade, fresh, readImage}
-use Rattle.rules.specs.Moves.{strays, marksFrom, placesFrom, standing, marksOf, placesOf, Marked, marked, drainAfter}
+use Rattle.rules.specs.Moves.{strays, marksFrom, placesFrom, standing, marksOf, placesOf, Marked, marked, changeAfter, drainAfter}
 use Rattle.rules.specs.Outcome.{Held, Outcome, accepted, shut, unchanged, drawn, doRule, refusal, doOpen, handsOver, nextOf, nextBackOf, doNext, doNextBack, doClose}
 use Rattle.rules.specs.Records.{Rec}
 use Rattle.rules.specs.Refusals.{onTaking, onSlots, onLayout, room, mostSlots}
 use Rattle.rules.specs.Rule.{Rule}
-use Rattle.rules.specs.Sequences.{Side, making, DrainCall, doOnDrain, next, nextBack, close}
+use Rattle.rules.specs.Sequences.{Side, making, QueueChange, op, freshly, reading, opening, doOnQueue, DrainCall, doOnDrain, next, nextBack, close}
 use Rattle.rules.specs.Tests.{unless}
 
 pub moved-true : (o : Op) → MovedTrue (rule o)
@@ -114,33 +114,52 @@ module _ (s : Side) (b : List ℕ) where
   same-counted f = sym (stands-still s b f)
 
   -- a call that was accepted, of the two outcomes that it may have
-  counted : (h : Held) (w : List Marked) (n : ℕ) (o : Outcome) → unless n o (unchanged b h n) .answer .refused ≡ 0 → (n ≡ 0 → Counted s w o) → Counted s w (unless n o (unchanged b h n))
+  counted : (h : Held) (w : List Marked) (n : ℕ) (o : Outcome) → unless n o (unchanged b h n) .answer .refused ≡ 0
+      → (n ≡ 0 → Counted s w o) → Counted s w (unless n o (unchanged b h n))
   unfolding unchanged
   counted h w n o z f = when-accepted n o (unchanged b h n) (λ x. x .answer .refused) refl z (Counted s w) f
 
   module _ (r : Rec) (g : Good (length b) r) where
-    pub op-counted : (o : Op) → doRule b r (rule o) .answer .refused ≡ 0 → Counted s (rule o .list Marked marked (marksOf s b (shut r))) (doRule b r (rule o))
+    op-counted : (o : Op) → doRule b r (rule o) .answer .refused ≡ 0
+        → Counted s (rule o .list Marked marked (marksOf s b (shut r))) (doRule b r (rule o))
     unfolding doRule marksOf
-    op-counted o z = counted (shut r) _ (refusal (length b) r (rule o)) (accepted b r (rule o)) z (λ e. accepted-counted s b r (rule o) (moved-true o s b r e))
+    op-counted o z =
+        counted (shut r) _ (refusal (length b) r (rule o)) (accepted b r (rule o)) z
+        (λ e. accepted-counted s b r (rule o) (moved-true o s b r e))
 
-    pub opening-counted : (x e : ℕ) → doOpen b r x e .answer .refused ≡ 0 → Counted s (marksOf s b (shut r)) (doOpen b r x e)
+    opening-counted : (x e : ℕ) → doOpen b r x e .answer .refused ≡ 0
+        → Counted s (marksOf s b (shut r)) (doOpen b r x e)
     unfolding doOpen
-    opening-counted x e z = counted (shut r) _ (onTaking (length b) r x e) (unchanged b (drawn (opened r x e)) 0) z (opened-counted s b r g x e)
+    opening-counted x e z =
+        counted (shut r) _ (onTaking (length b) r x e) (unchanged b (drawn (opened r x e)) 0) z
+        (opened-counted s b r g x e)
 
     -- a record is made over elements from outside: none stood before
-    making-counted : (l : List ℕ) (n : ℕ) → making b (shut r) (unless n (madeWith b l) (noneMade b n)) .answer .refused ≡ 0
+    making-counted : (l : List ℕ) (n : ℕ)
+        → making b (shut r) (unless n (madeWith b l) (noneMade b n)) .answer .refused ≡ 0
         → Counted s (map (marked .made) l) (making b (shut r) (unless n (madeWith b l) (noneMade b n)))
     unfolding making noneMade madeWith unless
     making-counted l zero z = sym (strays-made s l _)
     making-counted l (suc n) z = absurd (suc-ne-zero n z)
 
-    pub fresh-counted : making b (shut r) (fresh b) .answer .refused ≡ 0 → Counted s [] (making b (shut r) (fresh b))
+    fresh-counted : making b (shut r) (fresh b) .answer .refused ≡ 0 → Counted s [] (making b (shut r) (fresh b))
     unfolding fresh
     fresh-counted z = making-counted [] (onSlots (length b) 0) z
 
-    pub reading-counted : (x : List ℕ) → making b (shut r) (readImage b x) .answer .refused ≡ 0 → Counted s (map (marked .made) (elementsIn x)) (making b (shut r) (readImage b x))
+    reading-counted : (x : List ℕ) → making b (shut r) (readImage b x) .answer .refused ≡ 0
+        → Counted s (map (marked .made) (elementsIn x)) (making b (shut r) (readImage b x))
     unfolding readImage
-    reading-counted x z = making-counted (elementsIn x) (onSlots (length b) (onLayout (laidOut x) (room (length b) (howMany x)))) z
+    reading-counted x z =
+        making-counted (elementsIn x) (onSlots (length b) (onLayout (laidOut x) (room (length b) (howMany x)))) z
+
+    -- each change of a queue
+    pub change-counted : (k : QueueChange) → doOnQueue b r k .answer .refused ≡ 0
+        → Counted s (changeAfter k (marksOf s b (shut r))) (doOnQueue b r k)
+    unfolding doOnQueue changeAfter
+    change-counted (op o) z = op-counted o z
+    change-counted freshly z = fresh-counted z
+    change-counted (reading x) z = reading-counted x z
+    change-counted (opening x e) z = opening-counted x e z
 
 -- what handing over leaves of a drain's record
 front-none : (d : Drain) → d .remaining ≡ 0 → (fromFront d .remaining ≡ 0) × (fromFront d .start ≡ d .start) × (fromFront d .drained ≡ d .drained)
@@ -153,17 +172,22 @@ back-none d z = (omega arith, refl, refl)
 
 module _ (s : Side) (b : List ℕ) (d : Drain) (few : length b ≤ mostSlots) (g : GoodDrain (length b) d) where
   -- the drain, now d′, in the same list
-  handing-counted : (d′ : Drain) (v : ℕ) → asOpened d′ ≡ asOpened d → Counted s (during (marksOf s b (drawn d)) d′) (handsOver b d′ v)
+  handing-counted : (d′ : Drain) (v : ℕ) → asOpened d′ ≡ asOpened d
+      → Counted s (during (marksOf s b (drawn d)) d′) (handsOver b d′ v)
   unfolding handsOver marksOf placesOf during handable
-  handing-counted d′ v same = sym (rw (ap (λ (k : Rec). k .len) same, ap (λ (k : Rec). k .head) same) (during-stands s b (d .head) (spread d) (g .whole .placed) (g .whole .fits) d′))
+  handing-counted d′ v same =
+      sym (rw (ap (λ (k : Rec). k .len) same, ap (λ (k : Rec). k .head) same)
+      (during-stands s b (d .head) (spread d) (g .whole .placed) (g .whole .fits) d′))
 
   -- where none remains, none can be handed over
-  none-remains : (d′ : Drain) → d .remaining ≡ 0 → (d′ .remaining ≡ 0) × (d′ .start ≡ d .start) × (d′ .drained ≡ d .drained)
+  none-remains : (d′ : Drain) → d .remaining ≡ 0
+      → (d′ .remaining ≡ 0) × (d′ .start ≡ d .start) × (d′ .drained ≡ d .drained)
       → (w : List Marked) → during w d′ ≡ during w d
   unfolding during handable
   none-remains d′ z same w = rw (z, same .0, same .1, same .2)
 
-  none-counted : (d′ : Drain) → d .remaining ≡ 0 → (d′ .remaining ≡ 0) × (d′ .start ≡ d .start) × (d′ .drained ≡ d .drained)
+  none-counted : (d′ : Drain) → d .remaining ≡ 0
+      → (d′ .remaining ≡ 0) × (d′ .start ≡ d .start) × (d′ .drained ≡ d .drained)
       → Counted s (during (marksOf s b (drawn d)) d′) (unchanged b (drawn d) 0)
   unfolding standing
   none-counted d′ z same = rw (none-remains d′ z same (marksOf s b (drawn d))) (same-counted s b (fit-drawn few g))
@@ -173,22 +197,26 @@ module _ (s : Side) (b : List ℕ) (d : Drain) (few : length b ≤ mostSlots) (g
   next-counted zero e = none-counted (fromFront d) e (front-none d e)
   next-counted (suc n) e = handing-counted (fromFront d) _ (front-same d)
 
-  next-back-counted : (n : ℕ) → d .remaining ≡ n → Counted s (during (marksOf s b (drawn d)) (fromBack d)) (nextBackOf b d n)
+  next-back-counted : (n : ℕ) → d .remaining ≡ n
+      → Counted s (during (marksOf s b (drawn d)) (fromBack d)) (nextBackOf b d n)
   unfolding nextBackOf
   next-back-counted zero e = none-counted (fromBack d) e (back-none d e)
   next-back-counted (suc n) e = handing-counted (fromBack d) _ (back-same d)
 
-  closed-counted : Counted s (closeDrain d .list Marked marked (marksOf s b (drawn d))) (accepted b (asOpened d) (closeDrain d))
+  closed-counted : let R = closeDrain d in
+      Counted s (R .list Marked marked (marksOf s b (drawn d))) (accepted b (asOpened d) R)
   unfolding marksOf
   closed-counted = accepted-counted s b (asOpened d) (closeDrain d) (close-moved s b d g)
 
   -- as the drain's record says
-  asked-counted : (w : List Marked) (o : Outcome) → Counted s w o → unless (onDrain (length b) d) o (unchanged b (drawn d) (onDrain (length b) d)) .answer .refused ≡ 0
+  asked-counted : (w : List Marked) (o : Outcome) → Counted s w o
+      → unless (onDrain (length b) d) o (unchanged b (drawn d) (onDrain (length b) d)) .answer .refused ≡ 0
       → Counted s w (unless (onDrain (length b) d) o (unchanged b (drawn d) (onDrain (length b) d)))
   asked-counted w o c z = counted s b (drawn d) w (onDrain (length b) d) o z (λ e. c)
 
   -- each call of an open drain
-  pub drain-counted : (k : DrainCall) → doOnDrain b d k .answer .refused ≡ 0 → Counted s (drainAfter d k (marksOf s b (drawn d))) (doOnDrain b d k)
+  pub drain-counted : (k : DrainCall) → doOnDrain b d k .answer .refused ≡ 0
+      → Counted s (drainAfter d k (marksOf s b (drawn d))) (doOnDrain b d k)
   unfolding doOnDrain drainAfter doNext doNextBack doClose
   drain-counted next z = asked-counted _ _ (next-counted (d .remaining) refl) z
   drain-counted nextBack z = asked-counted _ _ (next-back-counted (d .remaining) refl) z

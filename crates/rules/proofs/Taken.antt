@@ -12,11 +12,13 @@ use Rattle.rules.specs.Refusals.{mostSlots}
 use Rattle.rules.specs.Sequences.{Call, Taken, passedOver, QueueCall, queueTaken, DrainCall, drainTaken, PairCall, bothTaken, takes, ifShut, ifDrawn, ofQueue, ofDrain, ofBoth}
 
 -- what holds where a call is passed over, and where it takes what it asks for, holds of every call
-pub by-taken : {b : List ℕ} {h : Held} {b′ : List ℕ} {h′ : Held} → Fit b h → Fit b′ h′ → (k : Call) (P : Held → Held → Taken → Type 0)
+pub by-taken : {b : List ℕ} {h : Held} {b′ : List ℕ} {h′ : Held} → Fit b h → Fit b′ h′
+    → (k : Call) (P : Held → Held → Taken → Type 0)
     → P h h′ passedOver
     → ((r : Rec) → Good (length b) r → (k : QueueCall) → P (shut r) h′ (queueTaken r k))
     → ((d : Drain) → length b ≤ mostSlots → GoodDrain (length b) d → (k : DrainCall) → P (drawn d) h′ (drainTaken d k))
-    → ((r r′ : Rec) → Good (length b) r → Good (length b′) r′ → (k : PairCall) → P (shut r) (shut r′) (bothTaken r r′ k))
+    → ((r r′ : Rec) → Good (length b) r → Good (length b′) r′ → (k : PairCall)
+    → P (shut r) (shut r′) (bothTaken r r′ k))
     → P h h′ (takes h h′ k)
 unfolding takes ifShut ifDrawn
 by-taken (fit-shut g) f′ (ofQueue k) P over queue drain both = queue _ g k
@@ -28,7 +30,8 @@ by-taken (fit-shut g) (fit-drawn few′ g′) (ofBoth k) P over queue drain both
 by-taken (fit-drawn few g) f′ (ofBoth k) P over queue drain both = over
 
 -- what holds of a and of f holds of the choice by what is held
-pub by-shut : {A : Type 0} {a : A} {f : Rec → A} (h : Held) (P : A → Type 0) → P a → ((r : Rec) → P (f r)) → P (ifShut a f h)
+pub by-shut : {A : Type 0} {a : A} {f : Rec → A} (h : Held) (P : A → Type 0) → P a → ((r : Rec) → P (f r))
+    → P (ifShut a f h)
 unfolding ifShut
 by-shut (shut r) P o k = k r
 by-shut (drawn d) P o k = o

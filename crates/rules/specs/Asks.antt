@@ -1,4 +1,5 @@
--- The calls that only look, named, for sequences of calls, and what they see. The calls of a walk are not among them: a walk keeps a record of its own. Assumes nothing.
+-- The calls that only look, named, for sequences of calls, and what they see. The calls of a walk are not among them: a
+-- walk keeps a record of its own. Assumes nothing.
 use mathlib.Core.Bool.{Bool}
 use mathlib.Core.List.{List}
 use mathlib.Core.Option.{Option}
@@ -25,7 +26,8 @@ pub data Ask : Type 0 where
 pub data AskBoth : Type 0 where
   eq? cmp? : AskBoth
 
--- what is seen: an element, if there is one; a truth; an order; where a search ended; a count; the two runs; the bytes of an image
+-- what is seen: an element, if there is one; a truth; an order; where a search ended; a count; the two runs; the bytes
+-- of an image
 pub data Sight : Type 0 where
   element : Option ℕ → Sight
   truth : Bool → Sight
