@@ -13,11 +13,7 @@ pub fn truncate(slots: &[u32], q: Deque, n: usize) -> Change
     ensures { λ r. ⌜ (ofChange r, now (slots .entry)) ≡ told (doRule (now (slots .entry)) (recOf q) (truncate n)) ⌝ }
 {
     if let Checked::Refused(refusal) = queue::check_change(slots.len(), q) {
-        return Change::Refused {
-            refusal,
-            queue: q,
-            moved: 0,
-        };
+        return queue::refused(refusal, q);
     }
     if n >= q.len {
         return Change::Done { queue: q, moved: 0 };
@@ -34,11 +30,7 @@ pub fn truncate_front(slots: &[u32], q: Deque, n: usize) -> Change
 {
     let cap = slots.len();
     if let Checked::Refused(refusal) = queue::check_change(cap, q) {
-        return Change::Refused {
-            refusal,
-            queue: q,
-            moved: 0,
-        };
+        return queue::refused(refusal, q);
     }
     let len = q.len;
     if n >= len {
@@ -56,11 +48,7 @@ pub fn clear(slots: &[u32], q: Deque) -> Change
     ensures { λ r. ⌜ (ofChange r, now (slots .entry)) ≡ told (doRule (now (slots .entry)) (recOf q) clear) ⌝ }
 {
     if let Checked::Refused(refusal) = queue::check_change(slots.len(), q) {
-        return Change::Refused {
-            refusal,
-            queue: q,
-            moved: 0,
-        };
+        return queue::refused(refusal, q);
     }
     let head = WrappedIndex::zero();
     Change::Done {

@@ -14,11 +14,7 @@ pub fn push_back(slots: &mut [u32], q: Deque, v: u32) -> Change
 {
     let cap = slots.len();
     if let Checked::Refused(refusal) = queue::check_change(cap, q) {
-        return Change::Refused {
-            refusal,
-            queue: q,
-            moved: 0,
-        };
+        return queue::refused(refusal, q);
     }
     let len = q.len;
     if len < cap {
@@ -31,11 +27,7 @@ pub fn push_back(slots: &mut [u32], q: Deque, v: u32) -> Change
             moved: 0,
         };
     }
-    Change::Refused {
-        refusal: Refusal::Room,
-        queue: q,
-        moved: 0,
-    }
+    queue::refused(Refusal::Room, q)
 }
 
 // Puts v in front.
@@ -44,11 +36,7 @@ pub fn push_front(slots: &mut [u32], q: Deque, v: u32) -> Change
 {
     let cap = slots.len();
     if let Checked::Refused(refusal) = queue::check_change(cap, q) {
-        return Change::Refused {
-            refusal,
-            queue: q,
-            moved: 0,
-        };
+        return queue::refused(refusal, q);
     }
     if q.len < cap {
         let first = places::wrap_sub(cap, q.head, 1);
@@ -59,9 +47,5 @@ pub fn push_front(slots: &mut [u32], q: Deque, v: u32) -> Change
             moved: 0,
         };
     }
-    Change::Refused {
-        refusal: Refusal::Room,
-        queue: q,
-        moved: 0,
-    }
+    queue::refused(Refusal::Room, q)
 }

@@ -41,11 +41,7 @@ pub fn extend(slots: &mut [u32], q: Deque, values: &[u32]) -> Change
     let cap = slots.len();
     let n = values.len();
     if let Checked::Refused(refusal) = check_more(cap, q, n) {
-        return Change::Refused {
-            refusal,
-            queue: q,
-            moved: 0,
-        };
+        return queue::refused(refusal, q);
     }
     // with nothing to copy there may be no slot either
     if n == 0 {
@@ -68,11 +64,7 @@ pub fn prepend(slots: &mut [u32], q: Deque, values: &[u32]) -> Change
     let cap = slots.len();
     let n = values.len();
     if let Checked::Refused(refusal) = check_more(cap, q, n) {
-        return Change::Refused {
-            refusal,
-            queue: q,
-            moved: 0,
-        };
+        return queue::refused(refusal, q);
     }
     if n == 0 {
         return Change::Done { queue: q, moved: 0 };
@@ -89,11 +81,7 @@ pub fn extend_front(slots: &mut [u32], q: Deque, values: &[u32]) -> Change
     let cap = slots.len();
     let n = values.len();
     if let Checked::Refused(refusal) = check_more(cap, q, n) {
-        return Change::Refused {
-            refusal,
-            queue: q,
-            moved: 0,
-        };
+        return queue::refused(refusal, q);
     }
     if n == 0 {
         return Change::Done { queue: q, moved: 0 };
@@ -109,18 +97,10 @@ pub fn resize(slots: &mut [u32], q: Deque, n: usize, v: u32) -> Change
 {
     let cap = slots.len();
     if let Checked::Refused(refusal) = queue::check_change(cap, q) {
-        return Change::Refused {
-            refusal,
-            queue: q,
-            moved: 0,
-        };
+        return queue::refused(refusal, q);
     }
     if n > cap {
-        return Change::Refused {
-            refusal: Refusal::Room,
-            queue: q,
-            moved: 0,
-        };
+        return queue::refused(Refusal::Room, q);
     }
     let len = q.len;
     let head = q.head;

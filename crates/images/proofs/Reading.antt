@@ -17,7 +17,7 @@ use Rattle.rules.proofs.Images.{length-elements}
 use Rattle.rules.proofs.Refusals.{slots-asks, no-room, some-room}
 use Rattle.rules.proofs.Ring.{write-straight}
 use Rattle.rules.proofs.Tests.{unless-stop}
-use Rattle.rules.specs.Images.{laidOut, howMany, bigEndian, fours, elementsIn}
+use Rattle.rules.specs.Images.{mostShort, laidOut, howMany, bigEndian, fours, elementsIn}
 use Rattle.rules.specs.Makes.{toldMaking, readImage, noneMade, madeWith}
 use Rattle.rules.specs.Records.{Rec, newRec}
 use Rattle.rules.specs.Refusals.{mostSlots, onSlots, onLayout, room}
@@ -42,7 +42,7 @@ module _ (s : List ℕ) where
       unfolding laidOut howMany
       wrong-version ne = rw (eq-eqb _ _ size, eq-eqb _ _ count, ne-eqb (getD s 2 0) 1 ne)
 
-      pub right : (m : ℕ) → getD s 2 0 ≡ 1 → m ≡ mostSlots → leb ((length s - 3) / 4) m ≡ laidOut s
+      pub right : (m : ℕ) → getD s 2 0 ≡ 1 → m ≡ mostShort → leb ((length s - 3) / 4) m ≡ laidOut s
       unfolding laidOut howMany
       right m e most = rw (eq-eqb _ _ size, eq-eqb _ _ count, eq-eqb _ _ e, most)
 

@@ -12,7 +12,7 @@ use Rattle.images.proofs.Reading.{length-fours}
 use Rattle.images.proofs.Writing.{length-image}
 use Rattle.rules.proofs.Images.{length-elements}
 use Rattle.rules.proofs.Refusals.{slots-asks, some-room}
-use Rattle.rules.specs.Images.{bigEndian, twoBytes, fourBytes, howMany, imageOf, bytesAfter, version, allBytes, laidOut, fours, elementsIn}
+use Rattle.rules.specs.Images.{mostShort, bigEndian, twoBytes, fourBytes, howMany, imageOf, bytesAfter, version, allBytes, laidOut, fours, elementsIn}
 use Rattle.rules.specs.Makes.{readImage, madeWith, noneMade}
 use Rattle.rules.specs.Refusals.{mostSlots, onLayout, onSlots, room}
 use Rattle.rules.specs.Tests.{ask, unless}
@@ -93,12 +93,12 @@ unfolding imageOf twoBytes
 behind-image l = refl
 
 -- an image keeps the layout
-pub image-laid-out : (l : List ℕ) → length l ≤ mostSlots → laidOut (imageOf l) ≡ true
+pub image-laid-out : (l : List ℕ) → length l ≤ mostShort → laidOut (imageOf l) ≡ true
 unfolding laidOut
 image-laid-out l few =
     let size : length (imageOf l) ≡ 2 + bytesAfter (length l) = omega (arith, length-image l) in
     let count : bigEndian 0 (take 2 (imageOf l)) ≡ bytesAfter (length l) = ap (bigEndian 0) (front-image l) ∙ two-back (bytesAfter (length l)) (omega arith) in
-    rw (many-image l, eq-eqb _ _ size, eq-eqb _ _ count, version-image l, le-leb (length l) mostSlots few)
+    rw (many-image l, eq-eqb _ _ size, eq-eqb _ _ count, version-image l, le-leb (length l) mostShort few)
 
 -- the elements of an image are the list
 fours-all : (l : List ℕ) → EachBelow elementLimit l → fours (length l) (allBytes l) ≡ l
@@ -143,7 +143,7 @@ record Laid (s : List ℕ) : Type 0 where
   size : length s ≡ 3 + 4 * howMany s
   count : bigEndian 0 (take 2 s) ≡ bytesAfter (howMany s)
   versioned : getD s 2 0 ≡ version
-  few : howMany s ≤ mostSlots
+  few : howMany s ≤ mostShort
 
 laid : (s : List ℕ) → laidOut s ≡ true → Laid s
 unfolding laidOut
@@ -188,7 +188,7 @@ image-read b l few fits u =
 
 -- bytes that are no list's image are refused with 5
 pub others-refused : (b s : List ℕ) → length b ≤ mostSlots → EachBelow byteLimit s
-    → ((l : List ℕ) → length l ≤ mostSlots → EachBelow elementLimit l → imageOf l ≡ s → ⊥) → readImage b s ≡ noneMade b 5
+    → ((l : List ℕ) → length l ≤ mostShort → EachBelow elementLimit l → imageOf l ≡ s → ⊥) → readImage b s ≡ noneMade b 5
 unfolding readImage onLayout ask unless
 others-refused b s few u no-image =
     rw (slots-asks (length b) (onLayout (laidOut s) (room (length b) (howMany s))) few, broken (laidOut s) refl)

@@ -123,7 +123,7 @@ fn laid_out(bytes: &[u8]) -> bool
     if seen != 1 {
         return false;
     }
-    n <= rules::most_slots()
+    n <= rules::most_short()
 }
 
 // Puts the numbers of the first n times four bytes behind the first three into the first n slots.

@@ -69,26 +69,14 @@ pub fn insert(slots: &mut [u32], q: Deque, index: usize, v: u32) -> Change
 {
     let cap = slots.len();
     if let Checked::Refused(refusal) = queue::check_change(cap, q) {
-        return Change::Refused {
-            refusal,
-            queue: q,
-            moved: 0,
-        };
+        return queue::refused(refusal, q);
     }
     let len = q.len;
     if index > len {
-        return Change::Refused {
-            refusal: Refusal::Position,
-            queue: q,
-            moved: 0,
-        };
+        return queue::refused(Refusal::Position, q);
     }
     if len == cap {
-        return Change::Refused {
-            refusal: Refusal::Room,
-            queue: q,
-            moved: 0,
-        };
+        return queue::refused(Refusal::Room, q);
     }
     let head = q.head;
     let later = len - index;

@@ -42,7 +42,7 @@ fn run_all(slots: &mut [u32], input: &mut [u8], out: &mut [u8]) {
 }
 
 fn main() {
-    let mut slots = [0u32; 16000];
+    let mut slots = [0u32; replays::SLOTS];
     let mut input = io::large_buffer();
     let mut out = io::large_buffer();
     run_all(&mut slots, &mut input, &mut out);

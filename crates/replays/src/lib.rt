@@ -5,6 +5,9 @@ mod reading; // reading.rt: what is read, through a buffer
 mod records; // records.rt: the records that stand in the input's buffer
 mod running; // running.rt: a journal, from its first byte to its last line
 
+// The slots of a replay program.
+pub const SLOTS: usize = 16000;
+
 pub use reading::pass_over;
 pub use running::Replayed;
 pub use running::replay;

@@ -151,11 +151,7 @@ pub fn retain(slots: &mut [u32], q: Deque, test: Test) -> Change
 {
     let cap = slots.len();
     if let Checked::Refused(refusal) = queue::check_change(cap, q) {
-        return Change::Refused {
-            refusal,
-            queue: q,
-            moved: 0,
-        };
+        return queue::refused(refusal, q);
     }
     let head = q.head;
     let len = q.len;

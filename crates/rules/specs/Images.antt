@@ -6,7 +6,7 @@ use lib.Dec.{eqb, leb}
 use lib.ListN.{length, take, getD, drop}
 use Rattle.rules.specs.Looks.{Look, looked}
 use Rattle.rules.specs.Records.{Rec, held}
-use Rattle.rules.specs.Refusals.{mostSlots, onQueue, room}
+use Rattle.rules.specs.Refusals.{onQueue, room}
 use Rattle.rules.specs.Tests.{unless}
 
 -- two bytes, and four bytes, big-endian
@@ -24,6 +24,10 @@ bigEndian n (x ∷ s) = bigEndian (n * 256 + x) s
 -- the version byte
 abbrev pub version : ℕ
 version = 1
+
+-- the most elements that an image holds
+abbrev pub mostShort : ℕ
+mostShort = 16000
 
 -- the number L of bytes after the first two, of an image of n elements
 abbrev pub bytesAfter : ℕ → ℕ
@@ -44,10 +48,10 @@ imageOf l = twoBytes (bytesAfter (length l)) ++ version ∷ allBytes l
 unfoldable pub howMany : List ℕ → ℕ
 howMany s = (length s - 3) / 4
 
--- the bytes keep the layout: L is 1 + 4n with n <= 16,000, the version is 1, and nothing follows
+-- the bytes keep the layout: L is 1 + 4n with n at most that, the version is 1, and nothing follows
 unfoldable pub laidOut : List ℕ → Bool
 laidOut s =
-    eqb (length s) (2 + bytesAfter (howMany s)) && (eqb (bigEndian 0 (take 2 s)) (bytesAfter (howMany s)) && (eqb (getD s 2 0) version && leb (howMany s) mostSlots))
+    eqb (length s) (2 + bytesAfter (howMany s)) && (eqb (bigEndian 0 (take 2 s)) (bytesAfter (howMany s)) && (eqb (getD s 2 0) version && leb (howMany s) mostShort))
 
 -- the first n numbers of four bytes each
 unfoldable pub fours : ℕ → List ℕ → List ℕ

@@ -7,7 +7,6 @@ use lib.ListN.{length, replicate}
 use Rattle.rules.specs.Journals.{Entry, doPushBack, doPushFront, doPopFront, doPopBack, doDrain, doTruncate, doTruncateFront, doInsert, doRemove, recordAt, taken, doEntry, broken, cut, ended}
 use Rattle.rules.specs.Outcome.{Held, shut, drawn, Answer}
 use Rattle.rules.specs.Records.{Rec, held, newRec}
-use Rattle.rules.specs.Refusals.{mostSlots}
 use Rattle.rules.specs.Tests.{whether}
 
 abbrev pub space : ℕ
@@ -78,6 +77,10 @@ replayed (suc k) s p b r = elim (recordAt s p) [
   | ended ↦ endLine b r
 ]
 
--- what the program writes: 16,000 slots of its own, zero at first; each record takes at least a byte
+-- the slots of the replay program
+abbrev pub mostPlayed : ℕ
+mostPlayed = 16000
+
+-- what the program writes: that many slots of its own, zero at first; each record takes at least a byte
 unfoldable pub replay : List ℕ → List ℕ
-replay s = replayed (length s) s 0 (replicate mostSlots 0) (newRec 0)
+replay s = replayed (length s) s 0 (replicate mostPlayed 0) (newRec 0)

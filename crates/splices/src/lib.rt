@@ -58,35 +58,19 @@ pub fn splice(slots: &mut [u32], q: Deque, start: usize, end: usize, values: &[u
 {
     let cap = slots.len();
     if let Checked::Refused(refusal) = queue::check_change(cap, q) {
-        return Change::Refused {
-            refusal,
-            queue: q,
-            moved: 0,
-        };
+        return queue::refused(refusal, q);
     }
     if start > end {
-        return Change::Refused {
-            refusal: Refusal::Position,
-            queue: q,
-            moved: 0,
-        };
+        return queue::refused(Refusal::Position, q);
     }
     let len = q.len;
     if end > len {
-        return Change::Refused {
-            refusal: Refusal::Position,
-            queue: q,
-            moved: 0,
-        };
+        return queue::refused(Refusal::Position, q);
     }
     let tail = len - end;
     let new = values.len();
     if new > cap - start - tail {
-        return Change::Refused {
-            refusal: Refusal::Room,
-            queue: q,
-            moved: 0,
-        };
+        return queue::refused(Refusal::Room, q);
     }
     let head = q.head;
     let joined = make_room(slots, head, start, end - start, new, tail);

@@ -32,25 +32,13 @@ pub fn swap(slots: &mut [u32], q: Deque, i: usize, j: usize) -> Change
 {
     let cap = slots.len();
     if let Checked::Refused(refusal) = queue::check_change(cap, q) {
-        return Change::Refused {
-            refusal,
-            queue: q,
-            moved: 0,
-        };
+        return queue::refused(refusal, q);
     }
     if i >= q.len {
-        return Change::Refused {
-            refusal: Refusal::Position,
-            queue: q,
-            moved: 0,
-        };
+        return queue::refused(Refusal::Position, q);
     }
     if j >= q.len {
-        return Change::Refused {
-            refusal: Refusal::Position,
-            queue: q,
-            moved: 0,
-        };
+        return queue::refused(Refusal::Position, q);
     }
     if i == j {
         return Change::Done { queue: q, moved: 0 };

@@ -24,8 +24,13 @@ check-change-requires c κs = search needs
 enum-known-refusal : tie.Need-enum-known-refusal
 enum-known-refusal c = search needs
 
+refused-requires : tie.Need-refused-requires
+refused-requires c κs = search needs
+
 returns : tie.Need-returns
-returns c = told-first _ _ _ (c .before .before .before .check-change .ensures) _ _ (c .before .refusal .given .1)
+returns c =
+    rw (c .refused .ensures)
+    (told-first _ _ _ (c .before .before .before .before .check-change .ensures) _ _ (c .before .before .refusal .given .1))
 
 enum-told : tie.Need-enum-told
 enum-told c = search needs
@@ -51,6 +56,7 @@ truncate-front-spec =
     (tie.spec
     check-change-requires
     enum-known-refusal
+    refused-requires
     returns
     enum-told
     returns-2

@@ -21,8 +21,13 @@ check-more-requires c κs = search needs
 enum-known-refusal : tie.Need-enum-known-refusal
 enum-known-refusal c = search needs
 
+refused-requires : tie.Need-refused-requires
+refused-requires c κs = search needs
+
 returns : tie.Need-returns
-returns c = extended-refused _ _ _ _ _ (c .before .before .before .check-more .ensures) (c .before .refusal .given .1)
+returns c =
+    rw (c .refused .ensures)
+    (extended-refused _ _ _ _ _ (c .before .before .before .before .check-more .ensures) (c .before .before .refusal .given .1))
 
 enum-told : tie.Need-enum-told
 enum-told c = search needs
@@ -54,6 +59,7 @@ extend-spec =
     (tie.spec
     check-more-requires
     enum-known-refusal
+    refused-requires
     returns
     enum-told
     returns-2

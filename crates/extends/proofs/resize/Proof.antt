@@ -25,14 +25,24 @@ check-change-requires c κs = search needs
 enum-known-refusal : tie.Need-enum-known-refusal
 enum-known-refusal c = search needs
 
+refused-requires : tie.Need-refused-requires
+refused-requires c κs = search needs
+
 returns : tie.Need-returns
-returns c = told-first _ _ _ (c .before .before .before .check-change .ensures) _ _ (c .before .refusal .given .1)
+returns c =
+    rw (c .refused .ensures)
+    (told-first _ _ _ (c .before .before .before .before .check-change .ensures) _ _ (c .before .before .refusal .given .1))
 
 enum-told : tie.Need-enum-told
 enum-told c = search needs
 
+refused-requires-2 : tie.Need-refused-requires-2
+refused-requires-2 c κs = search needs
+
 returns-2 : tie.Need-returns-2
-returns-2 c = resized-full _ _ (past (c .before)) _ _ (c .if1 .taken)
+returns-2 c =
+    rw (c .refused2 .ensures)
+    (resized-full _ _ (past (c .before .before)) _ _ (c .before .if1 .taken))
 
 stepped-requires : tie.Need-stepped-requires
 stepped-requires c κs = search needs
@@ -61,8 +71,10 @@ resize-spec =
     (tie.spec
     check-change-requires
     enum-known-refusal
+    refused-requires
     returns
     enum-told
+    refused-requires-2
     returns-2
     stepped-requires
     returns-3

@@ -27,17 +27,32 @@ check-change-requires c κs = search needs
 enum-known-refusal : tie.Need-enum-known-refusal
 enum-known-refusal c = search needs
 
+refused-requires : tie.Need-refused-requires
+refused-requires c κs = search needs
+
 returns : tie.Need-returns
-returns c = told-first _ _ _ (c .before .before .before .check-change .ensures) _ _ (c .before .refusal .given .1)
+returns c =
+    rw (c .refused .ensures)
+    (told-first _ _ _ (c .before .before .before .before .check-change .ensures) _ _ (c .before .before .refusal .given .1))
 
 enum-told : tie.Need-enum-told
 enum-told c = search needs
 
+refused-requires-2 : tie.Need-refused-requires-2
+refused-requires-2 c κs = search needs
+
 returns-2 : tie.Need-returns-2
-returns-2 c = splice-range _ _ _ _ _ (past (c .before)) (range-turned _ _ _ _ (omega arith))
+returns-2 c =
+    rw (c .refused2 .ensures)
+    (splice-range _ _ _ _ _ (past (c .before .before)) (range-turned _ _ _ _ (omega arith)))
+
+refused-requires-3 : tie.Need-refused-requires-3
+refused-requires-3 c κs = search needs
 
 returns-3 : tie.Need-returns-3
-returns-3 c = splice-range _ _ _ _ _ (past (c .before .before)) (range-past _ _ _ _ (omega arith) (omega arith))
+returns-3 c =
+    rw (c .refused3 .ensures)
+    (splice-range _ _ _ _ _ (past (c .before .before .before)) (range-past _ _ _ _ (omega arith) (omega arith)))
 
 sub-if3 : tie.Need-sub-if3
 sub-if3 c = let g = ok (c .before .before) .good in omega arith
@@ -45,8 +60,13 @@ sub-if3 c = let g = ok (c .before .before) .good in omega arith
 sub-if3-2 : tie.Need-sub-if3-2
 sub-if3-2 c = let g = ok (c .before .before) .good in omega arith
 
+refused-requires-4 : tie.Need-refused-requires-4
+refused-requires-4 c κs = search needs
+
 returns-4 : tie.Need-returns-4
-returns-4 c = let g = ok (c .before .before .before) .good in splice-full _ _ _ _ _ (past (c .before .before .before)) (omega arith) (omega arith) (omega arith)
+returns-4 c =
+    rw (c .refused4 .ensures)
+    (let g = ok (c .before .before .before .before) .good in splice-full _ _ _ _ _ (past (c .before .before .before .before)) (omega arith) (omega arith) (omega arith))
 
 make-room-requires : tie.Need-make-room-requires
 make-room-requires c κs = let g = ok (c .before .before .before .before .before) .good in let f = ok (c .before .before .before .before .before) .few in omega arith
@@ -87,12 +107,16 @@ splice-spec =
     (tie.spec
     check-change-requires
     enum-known-refusal
+    refused-requires
     returns
     enum-told
+    refused-requires-2
     returns-2
+    refused-requires-3
     returns-3
     sub-if3
     sub-if3-2
+    refused-requires-4
     returns-4
     make-room-requires
     fill-requires

@@ -46,17 +46,32 @@ check-change-requires c κs = search needs
 enum-known-refusal : tie.Need-enum-known-refusal
 enum-known-refusal c = search needs
 
+refused-requires : tie.Need-refused-requires
+refused-requires c κs = search needs
+
 returns : tie.Need-returns
-returns c = told-first _ _ _ (c .before .before .before .check-change .ensures) _ _ (c .before .refusal .given .1)
+returns c =
+    rw (c .refused .ensures)
+    (told-first _ _ _ (c .before .before .before .before .check-change .ensures) _ _ (c .before .before .refusal .given .1))
 
 enum-told : tie.Need-enum-told
 enum-told c = search needs
 
+refused-requires-2 : tie.Need-refused-requires-2
+refused-requires-2 c κs = search needs
+
 returns-2 : tie.Need-returns-2
-returns-2 c = one-past _ _ (past (c .before .before)) _ _ (c .if1 .taken)
+returns-2 c =
+    rw (c .refused2 .ensures)
+    (one-past _ _ (past (c .before .before .before)) _ _ (c .before .if1 .taken))
+
+refused-requires-3 : tie.Need-refused-requires-3
+refused-requires-3 c κs = search needs
 
 returns-3 : tie.Need-returns-3
-returns-3 c = other-past _ _ (past (c .before .before .before .before)) _ _ (c .before .before .if1 .left) (c .if2 .taken)
+returns-3 c =
+    rw (c .refused3 .ensures)
+    (other-past _ _ (past (c .before .before .before .before .before)) _ _ (c .before .before .before .if1 .left) (c .before .if2 .taken))
 
 returns-4 : tie.Need-returns-4
 returns-4 c = not-swapped _ _ (past (c .before .before .before .before .before)) _ _ (c .before .before .before .if1 .left) (c .before .if2 .left) (c .if3 .taken)
@@ -91,9 +106,12 @@ swap-spec =
     (tie.spec
     check-change-requires
     enum-known-refusal
+    refused-requires
     returns
     enum-told
+    refused-requires-2
     returns-2
+    refused-requires-3
     returns-3
     returns-4
     wrap-add-requires

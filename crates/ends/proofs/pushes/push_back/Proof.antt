@@ -33,8 +33,13 @@ check-change-requires c κs = search needs
 enum-known-refusal : tie.Need-enum-known-refusal
 enum-known-refusal c = search needs
 
+refused-requires : tie.Need-refused-requires
+refused-requires c κs = search needs
+
 returns : tie.Need-returns
-returns c = told-first _ _ _ (c .before .before .before .check-change .ensures) _ _ (c .before .refusal .given .1)
+returns c =
+    rw (c .refused .ensures)
+    (told-first _ _ _ (c .before .before .before .before .check-change .ensures) _ _ (c .before .before .refusal .given .1))
 
 enum-told : tie.Need-enum-told
 enum-told c = search needs
@@ -63,8 +68,13 @@ same-length c = search needs
 returns-2 : tie.Need-returns-2
 returns-2 c = back-pushed _ _ (past (c .before .before .before .before .before)) _ _ _ (λ full. omega (arith, c .before .before .before .before .if1 .taken, full)) (c .before .as-index .ensures ∙ c .before .before .wrap-add .ensures) (c .stepped .ensures)
 
+refused-requires-2 : tie.Need-refused-requires-2
+refused-requires-2 c κs = search needs
+
 returns-3 : tie.Need-returns-3
-returns-3 c = let g = ok (c .before) .good in back-full _ _ (past (c .before)) _ (omega arith)
+returns-3 c =
+    rw (c .refused2 .ensures)
+    (let g = ok (c .before .before) .good in back-full _ _ (past (c .before .before)) _ (omega arith))
 
 pub push-back-spec : {M : Type 1} → statement M
 push-back-spec =
@@ -72,6 +82,7 @@ push-back-spec =
     (tie.spec
     check-change-requires
     enum-known-refusal
+    refused-requires
     returns
     enum-told
     wrap-add-requires
@@ -82,4 +93,5 @@ push-back-spec =
     stepped-requires
     same-length
     returns-2
+    refused-requires-2
     returns-3)

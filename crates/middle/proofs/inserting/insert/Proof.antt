@@ -24,17 +24,30 @@ check-change-requires c κs = search needs
 enum-known-refusal : tie.Need-enum-known-refusal
 enum-known-refusal c = search needs
 
+refused-requires : tie.Need-refused-requires
+refused-requires c κs = search needs
+
 returns : tie.Need-returns
-returns c = told-first _ _ _ (c .before .before .before .check-change .ensures) _ _ (c .before .refusal .given .1)
+returns c =
+    rw (c .refused .ensures)
+    (told-first _ _ _ (c .before .before .before .before .check-change .ensures) _ _ (c .before .before .refusal .given .1))
 
 enum-told : tie.Need-enum-told
 enum-told c = search needs
 
+refused-requires-2 : tie.Need-refused-requires-2
+refused-requires-2 c κs = search needs
+
 returns-2 : tie.Need-returns-2
-returns-2 c = insert-past _ _ (past (c .before)) _ _ (c .if1 .taken)
+returns-2 c = rw (c .refused2 .ensures) (insert-past _ _ (past (c .before .before)) _ _ (c .before .if1 .taken))
+
+refused-requires-3 : tie.Need-refused-requires-3
+refused-requires-3 c κs = search needs
 
 returns-3 : tie.Need-returns-3
-returns-3 c = insert-full _ _ (past (c .before .before)) _ _ (c .before .if1 .left) (c .if2 .taken)
+returns-3 c =
+    rw (c .refused3 .ensures)
+    (insert-full _ _ (past (c .before .before .before)) _ _ (c .before .before .if1 .left) (c .before .if2 .taken))
 
 insert-later-requires : tie.Need-insert-later-requires
 insert-later-requires c κs = let g = ok (c .before .before .before .before .before) .good in let f = ok (c .before .before .before .before .before) .few in omega arith
@@ -75,9 +88,12 @@ insert-spec =
     (tie.spec
     check-change-requires
     enum-known-refusal
+    refused-requires
     returns
     enum-told
+    refused-requires-2
     returns-2
+    refused-requires-3
     returns-3
     insert-later-requires
     add-stepped
