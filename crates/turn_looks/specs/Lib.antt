@@ -1,0 +1,2 @@
+-- What was seen, in the terms of the rules.
+pub mod Sights

@@ -1,0 +1,44 @@
+// A look by its value.
+use super::sights::Looked;
+use super::sights::of_found;
+use super::sights::of_ordering;
+use super::sights::of_point;
+use super::sights::of_ranges;
+use super::sights::of_searched;
+use super::sights::of_truth;
+use queue::Deque;
+use turn_calls::Ask;
+use turn_calls::AskBoth;
+ghost use mathlib.Core.Path.{_≡_};
+ghost use Rattle.rules.specs.Asks.{answered, answeredBoth};
+ghost use Rattle.queue.specs.Answers.{recOf};
+ghost use Rattle.turn_calls.specs.Calls.{askBothOf, askOf};
+ghost use Rattle.turn_looks.specs.Sights.{ofLooked, lookTold};
+
+// Looks at one queue.
+pub fn ask(slots: &[u32], q: Deque, ask: Ask) -> Looked
+    ensures { λ r. ⌜ ofLooked r ≡ lookTold (answered (now (slots .entry)) (recOf q) (askOf ask)) ⌝ }
+{
+    match ask {
+        Ask::Get(i) => of_found(looks::get(slots, q, i)),
+        Ask::Front => of_found(looks::front(slots, q)),
+        Ask::Back => of_found(looks::back(slots, q)),
+        Ask::Contains(x) => of_truth(compare::contains(slots, q, x)),
+        Ask::SliceRanges(start, end) => of_ranges(runs::slice_ranges(slots, q, start, end)),
+        Ask::BinarySearch(x) => of_searched(search::binary_search(slots, q, x)),
+        Ask::PartitionPoint(test) => of_point(search::partition_point(slots, q, test)),
+    }
+}
+
+// Looks at two queues.
+pub fn ask_both(slots: &[u32], q: Deque, other_slots: &[u32], other: Deque, ask: AskBoth) -> Looked
+    ensures { λ r. ⌜
+        ofLooked r ≡ lookTold (answeredBoth (now (slots .entry)) (recOf q) (now («other_slots» .entry)) (recOf other)
+        (askBothOf ask))
+        ⌝ }
+{
+    match ask {
+        AskBoth::Eq => of_truth(compare::eq(slots, q, other_slots, other)),
+        AskBoth::Cmp => of_ordering(compare::cmp(slots, q, other_slots, other)),
+    }
+}
