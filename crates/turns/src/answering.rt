@@ -1,166 +1,146 @@
-// The answers of all calls in one form.
+// The answers of a call on either of two queues, or on both, in one form.
 use answers::Given;
-use answers::Reply;
 use answers::number_of;
-use drains::Closed;
-use drains::Drain;
-use drains::Drawn;
-use drains::Opened;
-use queue::Deque;
-use queue::Made;
+use joins::Joined;
+use joins::Split;
+use turn_changes::Answer;
+use turn_changes::Holding;
+use turn_looks::Looked;
+use turn_looks::Sight;
 ghost use mathlib.Core.Path.{_≡_};
-ghost use Rattle.queue.specs.Answers.{ofMade};
-ghost use Rattle.answers.specs.Replies.{ofReply};
-ghost use Rattle.drains.specs.Answers.{ofOpened, ofDrawn, ofClosed};
-ghost use Rattle.turns.specs.Answers.{heldOf, madeAnswer, noAnswer, ofAnswer};
+ghost use Rattle.rules.specs.Outcome.{Held};
+ghost use Rattle.joins.specs.Answers.{ofJoined, ofSplit};
+ghost use Rattle.turn_changes.specs.Answers.{heldOf, ofAnswer};
+ghost use Rattle.turn_looks.specs.Sights.{ofLooked};
+ghost use Rattle.turns.specs.Answers.{bothHeld, bothSeen, lookSeen, noneSeen, ofTurned, oneSeen, seenRound};
 
-// What a caller keeps of a queue: its record, or that of its open drain.
-pub enum Holding {
-    Shut(Deque),
-    Open(Drain),
-}
-
-// What a call on one queue answers: the refusal number, 0 if there is none; the moved count; the record; what was handed over.
-pub struct Answer {
-    pub refused: usize,
-    pub moved: usize,
-    pub holding: Holding,
-    pub handed: Given,
-}
-
-// What a call on either of two queues answers: the same, with the records of both.
+// What a call answers: the refusal number, 0 if there is none; the moved count; what was handed over; what was seen;
+// the records of both queues.
 pub struct Turned {
     pub refused: usize,
     pub moved: usize,
     pub handed: Given,
+    pub sight: Sight,
     pub a: Holding,
     pub b: Holding,
 }
 
-// The answer of a call on a queue's record.
-pub fn of_reply(reply: Reply) -> Answer
-    ensures { λ r. ⌜ ofAnswer r ≡ ofReply reply ⌝ }
+// Of a call that is passed over.
+pub fn passed_over(a: Holding, b: Holding) -> Turned
+    ensures { λ r. ⌜ ofTurned r ≡ noneSeen (heldOf a) (heldOf b) ⌝ }
 {
-    let queue = reply.queue;
-    let handed = reply.handed;
-    Answer {
-        refused: reply.refused,
-        moved: reply.moved,
-        holding: Holding::Shut(queue),
+    Turned {
+        refused: 0,
+        moved: 0,
+        handed: Given::Nothing,
+        sight: Sight::Nothing,
+        a,
+        b,
+    }
+}
+
+// Of a look.
+pub fn of_looked(looked: Looked, a: Holding, b: Holding) -> Turned
+    ensures { λ r. ⌜ ofTurned r ≡ lookSeen (ofLooked looked) (heldOf a) (heldOf b) ⌝ }
+{
+    let sight = looked.sight;
+    Turned {
+        refused: looked.refused,
+        moved: 0,
+        handed: Given::Nothing,
+        sight,
+        a,
+        b,
+    }
+}
+
+// Of a call that can change the first queue, and leaves the second.
+pub fn with_other(answer: Answer, other: Holding) -> Turned
+    ensures { λ r. ⌜ ofTurned r ≡ oneSeen (ofAnswer answer) (heldOf other) ⌝ }
+{
+    let holding = answer.holding;
+    let handed = answer.handed;
+    Turned {
+        refused: answer.refused,
+        moved: answer.moved,
         handed,
+        sight: Sight::Nothing,
+        a: holding,
+        b: other,
     }
 }
 
-// The answer of a call that makes a record; refused, what was held stays.
-pub fn of_made(before: Holding, made: Made) -> Answer
-    ensures { λ r. ⌜ ofAnswer r ≡ madeAnswer (heldOf before) (ofMade made) ⌝ }
+// Of a call that moved elements from one queue to the other, or was refused with a number: what both hold, and nothing
+// beside.
+fn of_both(refused: usize, moved: usize, a: Holding, b: Holding) -> Turned
+    ensures { λ r. ⌜ ofTurned r ≡ bothHeld refused moved (heldOf a) (heldOf b) ⌝ }
 {
-    match made {
-        Made::Done { queue, moved } => Answer {
-            refused: 0,
-            moved,
-            holding: Holding::Shut(queue),
-            handed: Given::Nothing,
-        },
-        Made::Refused { refusal, moved } => Answer {
-            refused: number_of(refusal),
-            moved,
-            holding: before,
-            handed: Given::Nothing,
-        },
+    Turned {
+        refused,
+        moved,
+        handed: Given::Nothing,
+        sight: Sight::Nothing,
+        a,
+        b,
     }
 }
 
-// The answer of a drain's opening.
-pub fn of_opened(opened: Opened) -> Answer
-    ensures { λ r. ⌜ ofAnswer r ≡ ofOpened opened ⌝ }
+// Of `append`.
+pub fn of_joined(joined: Joined) -> Turned
+    ensures { λ r. ⌜ ((h : Held) → ofTurned r ≡ bothSeen h (ofJoined joined)) ⌝ }
 {
-    match opened {
-        Opened::Done { drain, moved } => Answer {
-            refused: 0,
+    match joined {
+        Joined::Done {
+            queue,
+            other,
             moved,
-            holding: Holding::Open(drain),
-            handed: Given::Nothing,
-        },
-        Opened::Refused {
+        } => of_both(0, moved, Holding::Shut(queue), Holding::Shut(other)),
+        Joined::Refused {
+            refusal,
+            queue,
+            other,
+            moved,
+        } => of_both(
+            number_of(refusal),
+            moved,
+            Holding::Shut(queue),
+            Holding::Shut(other),
+        ),
+    }
+}
+
+// Of `split_off`; refused, what was held of the target stays.
+pub fn of_split(other: Holding, split: Split) -> Turned
+    ensures { λ r. ⌜ ofTurned r ≡ bothSeen (heldOf other) (ofSplit split) ⌝ }
+{
+    match split {
+        Split::Done {
+            queue,
+            target,
+            moved,
+        } => of_both(0, moved, Holding::Shut(queue), Holding::Shut(target)),
+        Split::Refused {
             refusal,
             queue,
             moved,
-        } => Answer {
-            refused: number_of(refusal),
-            moved,
-            holding: Holding::Shut(queue),
-            handed: Given::Nothing,
-        },
+        } => of_both(number_of(refusal), moved, Holding::Shut(queue), other),
     }
 }
 
-// The answer of a drain's `next` and `next_back`.
-pub fn of_drawn(drawn: Drawn) -> Answer
-    ensures { λ r. ⌜ ofAnswer r ≡ ofDrawn drawn ⌝ }
+// Of a call that was made on B, told of A and B.
+pub fn turned_round(turned: Turned) -> Turned
+    ensures { λ r. ⌜ ofTurned r ≡ seenRound (ofTurned turned) ⌝ }
 {
-    match drawn {
-        Drawn::Number {
-            number,
-            drain,
-            moved,
-        } => Answer {
-            refused: 0,
-            moved,
-            holding: Holding::Open(drain),
-            handed: Given::Number(number),
-        },
-        Drawn::Nothing { drain, moved } => Answer {
-            refused: 0,
-            moved,
-            holding: Holding::Open(drain),
-            handed: Given::Nothing,
-        },
-        Drawn::Refused {
-            refusal,
-            drain,
-            moved,
-        } => Answer {
-            refused: number_of(refusal),
-            moved,
-            holding: Holding::Open(drain),
-            handed: Given::Nothing,
-        },
-    }
-}
-
-// The answer of a drain's closing.
-pub fn of_closed(closed: Closed) -> Answer
-    ensures { λ r. ⌜ ofAnswer r ≡ ofClosed closed ⌝ }
-{
-    match closed {
-        Closed::Done { queue, moved } => Answer {
-            refused: 0,
-            moved,
-            holding: Holding::Shut(queue),
-            handed: Given::Nothing,
-        },
-        Closed::Refused {
-            refusal,
-            drain,
-            moved,
-        } => Answer {
-            refused: number_of(refusal),
-            moved,
-            holding: Holding::Open(drain),
-            handed: Given::Nothing,
-        },
-    }
-}
-
-// A call that is passed over.
-pub fn passed_over(holding: Holding) -> Answer
-    ensures { λ r. ⌜ ofAnswer r ≡ noAnswer (heldOf holding) ⌝ }
-{
-    Answer {
-        refused: 0,
-        moved: 0,
-        holding,
-        handed: Given::Nothing,
+    let handed = turned.handed;
+    let sight = turned.sight;
+    let a = turned.a;
+    let b = turned.b;
+    Turned {
+        refused: turned.refused,
+        moved: turned.moved,
+        handed,
+        sight,
+        a: b,
+        b: a,
     }
 }

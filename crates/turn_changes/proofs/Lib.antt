@@ -1,0 +1,3 @@
+-- What the functions' proofs cite.
+pub mod Known
+pub mod Changes

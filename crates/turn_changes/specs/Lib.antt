@@ -1,0 +1,2 @@
+-- What the answers mean.
+pub mod Answers

@@ -1,0 +1,44 @@
+-- `turns::answering::of_split` meets its contract. Assumes nothing.
+use mathlib.Core.Path.{_∙_}
+use Rattle.rules.specs.Sequences.{madeOr}
+use Rattle.turns.proofs.Told.{both-number, split-known}
+use borrow.Author.Needs.{needs}
+use Rattle.turns.proofs.answering.of_split.Statement.{statement}
+use Rattle.turns.proofs.answering.of_split.Tie as tie
+
+enum-known-split : tie.Need-enum-known-split
+enum-known-split c = search needs
+
+of-both-requires : tie.Need-of-both-requires
+of-both-requires c κs = search needs
+
+enum-known-split-2 : tie.Need-enum-known-split-2
+enum-known-split-2 c = search needs
+
+number-of-requires : tie.Need-number-of-requires
+number-of-requires c κs = search needs
+
+of-both-requires-2 : tie.Need-of-both-requires-2
+of-both-requires-2 c κs = search needs
+
+returns : tie.Need-returns
+unfolding madeOr
+returns c = c .of-both .ensures ∙ split-known _ _ _ (c .before .before .split .given .1)
+
+returns-2 : tie.Need-returns-2
+unfolding madeOr
+returns-2 c =
+    c .of-both2 .ensures ∙ both-number _ _ _ _ _ (c .before .number-of .ensures) ∙ split-known _ _ _
+    (c .before .before .before .split2 .given .1)
+
+pub of-split-spec : {M : Type 1} → statement M
+of-split-spec =
+    tie.close
+    (tie.spec
+    enum-known-split
+    of-both-requires
+    enum-known-split-2
+    number-of-requires
+    of-both-requires-2
+    returns
+    returns-2)
