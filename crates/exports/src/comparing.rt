@@ -15,7 +15,7 @@ ghost use Rattle.queue.specs.Answers.{recOf};
 pub extern "C" fn scorebucket_contains(slots: &[u32], q: Deque, x: u32) -> TruthReply
     ensures { λ r. ⌜ ofTruthReply r ≡ truthInC (lookAt (now (slots .entry)) (recOf q) (has x)) ⌝ }
 {
-    replies::of_truth(compare::contains(slots, q, x))
+    replies::of_truth(comparisons::contains(slots, q, x))
 }
 
 // Whether the two queues hold the same list.
@@ -30,7 +30,7 @@ pub extern "C" fn scorebucket_eq(
 {
     let ours = deque_in(q);
     let theirs = deque_in(other);
-    replies::of_truth(compare::eq(slots, ours, other_slots, theirs))
+    replies::of_truth(comparisons::eq(slots, ours, other_slots, theirs))
 }
 
 // How the list of the queue stands to that of the other in lexicographic order.
@@ -45,5 +45,5 @@ pub extern "C" fn scorebucket_cmp(
 {
     let ours = deque_in(q);
     let theirs = deque_in(other);
-    replies::of_ordering(compare::cmp(slots, ours, other_slots, theirs))
+    replies::of_ordering(comparisons::cmp(slots, ours, other_slots, theirs))
 }

@@ -1,5 +1,5 @@
 -- A list laid behind the one that stands, and in front of it: only the new one is written. Assumes nothing.
-use mathlib.Core.List.{List, _++_}
+use mathlib.Core.List.{List, [], _∷_, _++_, append-nil}
 use mathlib.Core.Path.{_≡_, ap, _∙_, sym}
 use Prim.Native.Nat.{ℕ, _≤_, _-_, zero, suc, _<_, _+_}
 use native.Mathlib.Omega.{arith}
@@ -33,6 +33,12 @@ module _ (b : List ℕ) (head n : ℕ) (l : List ℕ) (in-ring : head < length b
       ∙ ap (λ (h : ℕ). write cap (lay b g l) h (listOf b head n)) on
       ∙ ap (write cap (lay b g l) head) (sym same)
       ∙ write-read cap (lay b g l) head n)
+
+-- behind, where there may be no slot at all, and then nothing to lay
+pub lay-behind-good : (b : List ℕ) (head n : ℕ) (l : List ℕ) → head ≤ length b - 1 → n + length l ≤ length b
+    → lay b (place (length b) head n) l ≡ lay b head (listOf b head n ++ l)
+lay-behind-good b head n [] good fits = lay-none b _ ∙ sym (rw append-nil (lay-own b head n))
+lay-behind-good b head n (v ∷ l) good fits = lay-behind b head n (v ∷ l) (omega arith) fits
 
 -- a step within the ring leads into it
 pub place-in : (p cap h i : ℕ) → p ≡ place cap h i → h < cap → i ≤ cap → p < cap

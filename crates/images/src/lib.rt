@@ -9,7 +9,7 @@ ghost use mathlib.Core.List.{_∷_, [], _++_};
 ghost use Prim.Native.Nat.{_+_, _*_, _-_, _≤_, _<_};
 ghost use lib.ListN.{length, take, drop};
 ghost use lib.Seq.{sets};
-ghost use Rattle.rules.specs.Images.{twoBytes, fourBytes, bigEndian, version, allBytes, laidOut, fours};
+ghost use Rattle.rules.specs.Images.{mostShort, twoBytes, fourBytes, bigEndian, version, allBytes, laidOut, fours};
 ghost use Rattle.rules.specs.Makes.{toldMaking, readImage};
 ghost use Rattle.rules.specs.Slots.{lay, listOf};
 ghost use Rattle.queue.specs.Answers.{recOf, ofMade};
@@ -103,6 +103,13 @@ pub fn write_image(slots: &[u32], q: Deque, target: &mut [u8]) -> Written
     Written::Bytes(count)
 }
 
+// The most elements that an image holds.
+fn most_short() -> usize
+    ensures { λ r. ⌜ r ≡ mostShort ⌝ }
+{
+    16000
+}
+
 // Whether the bytes keep the layout of an image.
 fn laid_out(bytes: &[u8]) -> bool
     ensures { λ r. ⌜ r ≡ laidOut (now (bytes .entry)) ⌝ }
@@ -123,7 +130,7 @@ fn laid_out(bytes: &[u8]) -> bool
     if seen != 1 {
         return false;
     }
-    n <= rules::most_short()
+    n <= most_short()
 }
 
 // Puts the numbers of the first n times four bytes behind the first three into the first n slots.

@@ -1,3 +1,2 @@
--- `Copied`: a queue's runs, copied; `Pairs`: what the calls do.
-pub mod Copied
+-- `Pairs`: what the calls do.
 pub mod Pairs

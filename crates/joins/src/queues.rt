@@ -6,12 +6,7 @@ use queue::Checked;
 use queue::Deque;
 use queue::Refusal;
 ghost use mathlib.Core.Path.{_≡_};
-ghost use Prim.Native.Nat.{_-_, _≤_, _<_};
-ghost use lib.ListN.{length, drop};
 ghost use Rattle.rules.specs.Pairs.{onAppending, onSplitting, doAppend, doSplit, toldPairing};
-ghost use Rattle.rules.specs.Records.{held};
-ghost use Rattle.rules.specs.Refusals.{onChange, mostSlots};
-ghost use Rattle.rules.specs.Slots.{lay, listOf};
 ghost use Rattle.queue.specs.Answers.{recOf, numberIn};
 ghost use Rattle.joins.specs.Answers.{ofJoined, ofSplit};
 
@@ -52,46 +47,10 @@ fn check_split(cap: usize, q: Deque, target_cap: usize, at: usize) -> Checked
     Checked::Good
 }
 
-// Copies the `n` elements that stand from `first` on, past the last slot, into other slots from `dst` on: the front run, and behind it the back run.
-fn copy_runs_apart(
-    slots: &mut [u32],
-    dst: WrappedIndex,
-    from: &[u32],
-    first: WrappedIndex,
-    n: usize,
-)
-    requires { ⌜ (first .0 < length (now from)) × (length (now from) - first .0 < n) × (n ≤ length (now from)) ⌝ }
-    requires { ⌜ (dst .0 < length (now slots)) × (n ≤ length (now slots)) × (length (now slots) ≤ mostSlots) ⌝ }
-    ensures { λ _. ⌜ now (slots .exit) ≡ lay (now (slots .entry)) (dst .0) (listOf (now (from .entry)) (first .0) n) ⌝ }
-{
-    let at = first.as_index();
-    let front = from.len() - at;
-    let behind = places::wrap_add(slots.len(), dst, front);
-    copies::copy_slice(slots, dst, &from[at..]);
-    copies::copy_slice(slots, behind, &from[..n - front]);
-}
-
-// Copies a queue's elements from position `start` on into other slots from `dst` on.
-fn copy_later(slots: &mut [u32], dst: WrappedIndex, from: &[u32], q: Deque, start: usize)
-    requires { ⌜ onChange (length (now from)) (recOf q) 0 ≡ 0 ⌝ }
-    requires { ⌜ (start < q .len) × (q .len - start ≤ length (now slots)) × (dst .0 < length (now slots)) × (length (now slots) ≤ mostSlots) ⌝ }
-    ensures { λ _. ⌜ now (slots .exit) ≡ lay (now (slots .entry)) (dst .0) (drop start (held (now (from .entry)) (recOf q))) ⌝ }
-{
-    let n = q.len - start;
-    let head = q.head;
-    let first = places::wrap_add(from.len(), head, start);
-    let at = first.as_index();
-    if n <= from.len() - at {
-        let end = at + n;
-        copies::copy_slice(slots, dst, &from[at..end]);
-    } else {
-        copy_runs_apart(slots, dst, from, first, n);
-    }
-}
-
 // Copies the other queue's elements behind ours, and empties the other.
 pub fn append(slots: &mut [u32], q: Deque, other_slots: &[u32], other: Deque) -> Joined
-    ensures { λ r. ⌜ (ofJoined r, now (slots .exit), now («other_slots» .entry)) ≡ toldPairing (doAppend (now (slots .entry)) (recOf q) (now («other_slots» .entry)) (recOf other)) ⌝ }
+    ensures { λ r. ⌜ (ofJoined r, now (slots .exit), now («other_slots» .entry))
+        ≡ toldPairing (doAppend (now (slots .entry)) (recOf q) (now («other_slots» .entry)) (recOf other)) ⌝ }
 {
     let cap = slots.len();
     if let Checked::Refused(refusal) = check_append(cap, q, other_slots.len(), other) {
@@ -102,34 +61,22 @@ pub fn append(slots: &mut [u32], q: Deque, other_slots: &[u32], other: Deque) ->
             moved: 0,
         };
     }
-    let emptied = queue::stepped(other, WrappedIndex::zero(), 0);
-    let theirs = other.len;
-    if theirs == 0 {
-        return Joined::Done {
-            queue: q,
-            other: emptied,
-            moved: 0,
-        };
-    }
     let len = q.len;
     let head = q.head;
-    copy_later(
-        slots,
-        places::wrap_add(cap, head, len),
-        other_slots,
-        other,
-        0,
-    );
+    let theirs = other.len;
+    let behind = places::wrap_add(cap, head, len);
+    crossings::copy_range(slots, behind, other_slots, other, 0, theirs);
     Joined::Done {
         queue: queue::stepped(q, head, len + theirs),
-        other: emptied,
+        other: queue::stepped(other, WrappedIndex::zero(), 0),
         moved: theirs,
     }
 }
 
 // Fills a bare target from its first slot on with the elements from position `at` on, which leaves the first `at` in ours.
 pub fn split_off(slots: &[u32], q: Deque, at: usize, target: &mut [u32]) -> Split
-    ensures { λ r. ⌜ (ofSplit r, now (slots .entry), now (target .exit)) ≡ toldPairing (doSplit (now (slots .entry)) (recOf q) (now (target .entry)) at) ⌝ }
+    ensures { λ r. ⌜ (ofSplit r, now (slots .entry), now (target .exit))
+        ≡ toldPairing (doSplit (now (slots .entry)) (recOf q) (now (target .entry)) at) ⌝ }
 {
     if let Checked::Refused(refusal) = check_split(slots.len(), q, target.len(), at) {
         return Split::Refused {
@@ -138,21 +85,11 @@ pub fn split_off(slots: &[u32], q: Deque, at: usize, target: &mut [u32]) -> Spli
             moved: 0,
         };
     }
-    let len = q.len;
-    let later = len - at;
-    let kept = queue::stepped(q, q.head, at);
-    let made = queue::new_record(later);
-    if later == 0 {
-        return Split::Done {
-            queue: kept,
-            target: made,
-            moved: 0,
-        };
-    }
-    copy_later(target, WrappedIndex::zero(), slots, q, at);
+    let later = q.len - at;
+    crossings::copy_range(target, WrappedIndex::zero(), slots, q, at, later);
     Split::Done {
-        queue: kept,
-        target: made,
+        queue: queue::stepped(q, q.head, at),
+        target: queue::new_record(later),
         moved: later,
     }
 }

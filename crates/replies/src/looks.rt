@@ -1,13 +1,13 @@
 // The answers of the calls that only look. Refused, the other fields are 0 or false.
-use compare::Ordering;
-use compare::Truth;
+use comparisons::Ordering;
+use comparisons::Truth;
 use images::Written;
 use queue::Found;
 use search::Point;
 use search::Searched;
 ghost use mathlib.Core.Path.{_≡_};
 ghost use Rattle.queue.specs.Answers.{ofFound};
-ghost use Rattle.compare.specs.Answers.{ofTruth, ofOrdering};
+ghost use Rattle.comparisons.specs.Answers.{ofTruth, ofOrdering};
 ghost use Rattle.search.specs.Answers.{ofSearched, ofPoint};
 ghost use Rattle.images.specs.Answers.{ofWritten};
 ghost use Rattle.replies.specs.InC.{seenInC, truthInC, orderInC, spotInC, countInC};

@@ -7,7 +7,7 @@ use Rattle.rules.specs.Images.{imageOf}
 use Rattle.rules.specs.Journals.{closing}
 use Rattle.rules.specs.Looks.{Look, refuses, sees}
 use Rattle.rules.specs.Outcome.{Held, shut, drawn, Outcome, doRule, doOpen}
-use Rattle.rules.specs.Records.{Rec}
+use Rattle.rules.specs.Records.{Rec, recAt, newRec}
 use Rattle.rules.specs.Runs.{TwoRuns, lookRuns}
 use Rattle.rules.specs.Search.{Spot, foundAt, placeAt, searchFor}
 
@@ -52,7 +52,7 @@ abbrev pub slotsQ : List ℕ
 slotsQ = 3 ∷ 4 ∷ 5 ∷ 91 ∷ 92 ∷ 93 ∷ 1 ∷ 2 ∷ []
 
 abbrev pub recQ : Rec
-recQ = record { head = 6; len = 5 }
+recQ = recAt 6 5
 
 -- a line of the table: an example, and what the paper says of it
 pub record Line : Type 0 where
@@ -86,9 +86,9 @@ examples =
     -- 9. splice 1..4 by x: a x e, head 6, moved 1
     ∷ line (calling slotsQ recQ (splice! 1 4 (7 ∷ []))) (0 ∷ 1 ∷ 6 ∷ 3 ∷ 5 ∷ 4 ∷ 5 ∷ 91 ∷ 92 ∷ 93 ∷ 1 ∷ 7 ∷ [])
     -- 10. slots 7 9 5 7, head 2, len 4, search 7: found at 2
-    ∷ line (searching (7 ∷ 9 ∷ 5 ∷ 7 ∷ []) (record { head = 2; len = 4 }) 7) (0 ∷ 1 ∷ 2 ∷ [])
+    ∷ line (searching (7 ∷ 9 ∷ 5 ∷ 7 ∷ []) (recAt 2 4) 7) (0 ∷ 1 ∷ 2 ∷ [])
     -- 11. cap 4, head 0, elements 4 1 6 2, retain below 5: 4 1 2, moved 1, slot 3 still 2
-    ∷ line (calling (4 ∷ 1 ∷ 6 ∷ 2 ∷ []) (record { head = 0; len = 4 }) (retain! (below 5))) (0 ∷ 1 ∷ 0 ∷ 3 ∷ 4 ∷ 1 ∷ 2 ∷ 2 ∷ [])
+    ∷ line (calling (4 ∷ 1 ∷ 6 ∷ 2 ∷ []) (newRec 4) (retain! (below 5))) (0 ∷ 1 ∷ 0 ∷ 3 ∷ 4 ∷ 1 ∷ 2 ∷ 2 ∷ [])
     -- 12. image of 1, 2: 0009 01 00000001 00000002
     ∷ line (imaging (1 ∷ 2 ∷ [])) (0 ∷ 9 ∷ 1 ∷ 0 ∷ 0 ∷ 0 ∷ 1 ∷ 0 ∷ 0 ∷ 0 ∷ 2 ∷ [])
     ∷ []

@@ -10,7 +10,7 @@ use lib.ListN.{length, take, drop}
 use lib.Seq.{take-all}
 use Rattle.rules.proofs.Held.{length-held}
 use Rattle.rules.proofs.Places.{place-low, wrapped-high}
-use Rattle.rules.proofs.Refusals.{queue-ok, range-ok, queue-go}
+use Rattle.rules.proofs.Refusals.{Good, queue-ok, range-ok, queue-go}
 use Rattle.rules.proofs.Ring.{read-add, read-straight}
 use Rattle.rules.proofs.Slots.{listOf-none, listOf-drop, listOf-take}
 use Rattle.rules.proofs.Tests.{unless-go, lt-or-ge}
@@ -18,7 +18,7 @@ use Rattle.rules.specs.Places.{place}
 use Rattle.rules.specs.Records.{Rec, held}
 use Rattle.rules.specs.Refusals.{onQueue, inRange, onRange}
 use Rattle.rules.specs.Runs.{TwoRuns, part, runs, frontRun, backRun, runsOr}
-use Rattle.rules.specs.Slots.{read}
+use Rattle.rules.specs.Slots.{read, listOf}
 use Rattle.rules.specs.Tests.{ask}
 use Rattle.runs.proofs.Cases.{by-runs}
 
@@ -53,9 +53,18 @@ module _ (b : List ℕ) (h s e : ℕ) (good : h ≤ length b - 1) (le : s ≤ e)
       (λ differ over. rw (sub-zero (e - s - (cap - w))) (sym (read-round b w (e - s) (in-ring differ) over (omega arith))))
 
 module _ (b : List ℕ) (r : Rec) where
+  -- the n elements from position s on, of which there are some, stand from their place on
+  pub range-held : (s n : ℕ) → Good (length b) r → s + n ≤ r .len → s < r .len
+      → listOf b (place (length b) (r .head) s) n ≡ take n (drop s (held b r))
+  unfolding held
+  range-held s n g le lt =
+      let h : r .head < length b = omega arith in
+      sym (ap (take n) (listOf-drop b (r .head) h s (r .len) (omega arith) (g .fits))
+      ∙ listOf-take b (place (length b) (r .head) s) (place-low (length b) (r .head) h s (omega arith)) n (r .len - s) (omega arith) (omega arith))
+
   -- an accepted range: its runs are the range's elements, in order
   pub runs-range : (s e : ℕ) → onRange (length b) r s e ≡ 0 → frontRun b r s e ++ backRun b r s e ≡ take (e - s) (drop s (held b r))
-  unfolding frontRun backRun runsOr onRange held
+  unfolding frontRun backRun runsOr onRange
   runs-range s e z =
       let q = queue-ok (length b) r _ z in
       let g = q .0 in
@@ -63,10 +72,7 @@ module _ (b : List ℕ) (r : Rec) where
       ap (joined b) (unless-go (onRange (length b) r s e) (runs (length b) (r .head) s e) _ z)
       ∙ joined-runs b (r .head) s e (g .placed) (k .0) (omega arith)
       ∙ ⊎-elim
-      (λ lt.
-      let h : r .head < length b = omega arith in
-      sym (ap (take (e - s)) (listOf-drop b (r .head) h s (r .len) (omega arith) (g .fits))
-      ∙ listOf-take b (place (length b) (r .head) s) (place-low (length b) (r .head) h s (omega arith)) (e - s) (r .len - s) (omega arith) (omega arith)))
+      (λ lt. range-held s (e - s) g (omega arith) (omega arith))
       (λ ge. let empty : e - s ≡ 0 = omega arith in rw empty (listOf-none b _))
       (lt-or-ge s e)
 

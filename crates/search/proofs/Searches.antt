@@ -2,26 +2,24 @@
 use mathlib.Core.Bool.{Bool, true, false}
 use mathlib.Core.List.{List, [], _∷_}
 use mathlib.Core.Logic.{_≢_}
-use mathlib.Core.Path.{_≡_, refl, _∙_, ap, sym}
+use mathlib.Core.Path.{_≡_, refl, _∙_, ap}
 use Prim.Native.Nat.{ℕ, _+_, _≤_, _<_}
 use native.Mathlib.Nat.{zero-add}
 use native.Mathlib.Omega.{arith}
 use borrow.Author.Tests.{lt-ltb, eq-eqb, ne-eqb, le-ltb}
 use lib.Dec.{ltb}
-use lib.ListN.{length, getD, length-append}
-use Rattle.queue.proofs.Checks.{fine}
-use Rattle.queue.proofs.Looks.{look-first, look-past}
+use lib.ListN.{length, getD}
+use Rattle.queue.proofs.Looks.{look-first}
 use Rattle.queue.specs.Answers.{numberIn, numberOf}
-use Rattle.rules.proofs.Held.{length-held}
 use Rattle.rules.proofs.Tests.{by-test₂}
 use Rattle.rules.specs.Conditions.{meets, equal, below, Test}
 use Rattle.rules.specs.Looks.{refuses, lookAt, sees}
 use Rattle.rules.specs.Records.{Rec}
-use Rattle.rules.specs.Refusals.{onQueue, mostSlots}
+use Rattle.rules.specs.Refusals.{onQueue}
 use Rattle.rules.specs.Runs.{frontRun, backRun}
-use Rattle.rules.specs.Search.{foundAt, spotOf, spotIn, placeIn, pointOf, placeAt, searchFor, partitionBy, Spot}
+use Rattle.rules.specs.Search.{foundAt, spotOf, spotIn, placeIn, pointOf, placeAt, searchFor, partitionBy}
 use Rattle.rules.specs.Tests.{whether}
-use Rattle.runs.proofs.Whole.{runs-held}
+use Rattle.runs.proofs.Asks.{asks-seen}
 use Rattle.search.specs.Handed.{begins, handedRun, countedFrom}
 use Rattle.queue.specs.declared.Refusal.{Refusal}
 use Rattle.queue.specs.declared.Checked.{Checked}
@@ -61,6 +59,10 @@ unfolding handedRun countedFrom
 counted-in f front back =
     by-test₂ (begins f back) (λ (n : ℕ) (l : List ℕ). n + length l ≤ length front + length back) (λ t. omega arith) (λ t. omega arith)
 
+pub counted-on : (f : ℕ → Bool) (front back run : List ℕ) (off low : ℕ) → run ≡ handedRun f front back
+    → off ≡ countedFrom f front back → low ≤ length run → off + low ≤ length front + length back
+counted-on f front back run off low at-run at-off le = omega (arith, counted-in f front back, ap length at-run)
+
 pub spot-handed : (x : ℕ) (front back run : List ℕ) (off : ℕ) → run ≡ handedRun (meets (below x)) front back → off ≡ countedFrom (meets (below x)) front back → begins (meets (equal x)) back ≡ false
     → spotIn x run off ≡ spotOf x front back
 spot-handed x front back run off at-run at-off e = rw (at-run, at-off) (spot-run x front back e)
@@ -94,21 +96,13 @@ module _ (b : List ℕ) (r : Rec) where
   unfolding partitionBy lookAt
   partition-refused u = look-first b r (λ l. pointOf (meets u) (frontRun b r 0 (r .len)) (backRun b r 0 (r .len)))
 
--- front and back are its runs
+-- past them: front and back are its runs
+module _ (b : List ℕ) (r : Rec) (first : onQueue (length b) r 0 ≡ 0) (front back : List ℕ)
+    (at-front : front ≡ frontRun b r 0 (r .len)) (at-back : back ≡ backRun b r 0 (r .len)) where
+  pub spot-seen : (x : ℕ) → sees (spotOf x front back) ≡ searchFor b r x
+  unfolding searchFor
+  spot-seen x = rw (at-front, at-back) (asks-seen _ _ first)
 
-module _ (b : List ℕ) (r : Rec) (first : onQueue (length b) r 0 ≡ 0) (front back : List ℕ) (at-front : front ≡ frontRun b r 0 (r .len)) (at-back : back ≡ backRun b r 0 (r .len)) where
-  pub spot-seen : (x : ℕ) (p : Spot) → p ≡ spotOf x front back → sees p ≡ searchFor b r x
-  unfolding searchFor lookAt
-  spot-seen x p e = look-past b r (λ l. spotOf x (frontRun b r 0 (r .len)) (backRun b r 0 (r .len))) first p (rw (← at-front, ← at-back) e)
-
-  pub point-seen : (t : Test) (p : ℕ) → p ≡ pointOf (meets t) front back → sees p ≡ partitionBy b r t
-  unfolding partitionBy lookAt
-  point-seen t p e = look-past b r (λ l. pointOf (meets t) (frontRun b r 0 (r .len)) (backRun b r 0 (r .len))) first p (rw (← at-front, ← at-back) e)
-
-  -- a place in the run that is handed, counted on, is a small number
-  pub small : (f : ℕ → Bool) (run : List ℕ) (off low : ℕ) → run ≡ handedRun f front back → off ≡ countedFrom f front back → low ≤ length run → off + low ≤ mostSlots
-  small f run off low at-run at-off le =
-      let k = fine b r first in
-      let g = k .good in
-      let all : length front + length back ≡ r .len = sym (length-append front back) ∙ rw (at-front, at-back) (ap length (runs-held b r first)) ∙ length-held b r in
-      omega (arith, counted-in f front back, ap length at-run)
+  pub point-seen : (t : Test) → sees (pointOf (meets t) front back) ≡ partitionBy b r t
+  unfolding partitionBy
+  point-seen t = rw (at-front, at-back) (asks-seen _ _ first)

@@ -1,17 +1,17 @@
 // Search by halving, in one of the two runs.
+mod in_runs; // in_runs.rt: the search of a list in two runs, of which no queue is known
+
 use conditions::Test;
+pub use in_runs::point_runs;
+pub use in_runs::search_runs;
 use queue::Checked;
 use queue::Deque;
 use queue::Refusal;
-ghost use lib.ListN.{length};
 ghost use mathlib.Core.Path.{_≡_};
-ghost use Prim.Native.Nat.{_≤_};
-ghost use Rattle.rules.specs.Conditions.{meets};
-ghost use Rattle.rules.specs.Search.{placeIn, searchFor, partitionBy};
+ghost use Rattle.rules.specs.Search.{searchFor, partitionBy};
 ghost use Rattle.conditions.specs.Tests.{testOf};
 ghost use Rattle.queue.specs.Answers.{recOf};
 ghost use Rattle.search.specs.Answers.{ofSearched, ofPoint};
-ghost use Rattle.search.specs.Handed.{begins, handedRun, countedFrom};
 
 // The answer of a search: the position where x stands, or the place to insert it.
 pub enum Searched {
@@ -26,56 +26,6 @@ pub enum Point {
     Refused(Refusal),
 }
 
-// Whether the run has a first element that meets the test.
-fn begins_with(run: &[u32], test: Test) -> bool
-    ensures { λ r. ⌜ r ≡ begins (meets (testOf test)) (now (run .entry)) ⌝ }
-{
-    if run.len() == 0 {
-        return false;
-    }
-    conditions::meets(test, run[0])
-}
-
-// The run in which the halving continues: elements that meet the test count as less.
-fn handed_run<'a>(front: &'a [u32], back: &'a [u32], test: Test) -> &'a [u32]
-    ensures { λ r. ⌜ now r ≡ handedRun (meets (testOf test)) (now (front .entry)) (now (back .entry)) ⌝ }
-{
-    if begins_with(back, test) {
-        return back;
-    }
-    front
-}
-
-// What the places in that run count on from.
-fn counted_from<'a>(front: &'a [u32], back: &'a [u32], test: Test) -> usize
-    ensures { λ r. ⌜ r ≡ countedFrom (meets (testOf test)) (now (front .entry)) (now (back .entry)) ⌝ }
-{
-    if begins_with(back, test) {
-        return front.len();
-    }
-    0
-}
-
-// Where the halving within a run ends.
-fn place_in(run: &[u32], test: Test) -> usize
-    ensures { λ r. ⌜ (r ≤ length (now (run .entry))) × (r ≡ placeIn (meets (testOf test)) (now (run .entry))) ⌝ }
-{
-    let mut low: usize = 0;
-    let mut high = run.len();
-    let place = loop {
-        if low >= high {
-            break low;
-        }
-        let middle = low + (high - low) / 2;
-        if conditions::meets(test, run[middle]) {
-            low = middle + 1;
-        } else {
-            high = middle;
-        }
-    };
-    place
-}
-
 // Where x stands in the queue, or where to insert it.
 pub fn binary_search(slots: &[u32], q: Deque, x: u32) -> Searched
     ensures { λ r. ⌜ ofSearched r ≡ searchFor (now (slots .entry)) (recOf q) x ⌝ }
@@ -87,19 +37,7 @@ pub fn binary_search(slots: &[u32], q: Deque, x: u32) -> Searched
     let len = q.len;
     let front = runs::front_run(slots, q, 0, len);
     let back = runs::back_run(slots, q, 0, len);
-    if begins_with(back, Test::Equal(x)) {
-        return Searched::Found(front.len());
-    }
-    let less = Test::Below(x);
-    let run = handed_run(front, back, less);
-    let low = place_in(run, less);
-    let at = counted_from(front, back, less) + low;
-    if low < run.len() {
-        if run[low] == x {
-            return Searched::Found(at);
-        }
-    }
-    Searched::Place(at)
+    search_runs(front, back, x)
 }
 
 // How many elements of a list that is parted by the test meet it.
@@ -113,8 +51,5 @@ pub fn partition_point(slots: &[u32], q: Deque, test: Test) -> Point
     let len = q.len;
     let front = runs::front_run(slots, q, 0, len);
     let back = runs::back_run(slots, q, 0, len);
-    let run = handed_run(front, back, test);
-    let low = place_in(run, test);
-    let at = counted_from(front, back, test) + low;
-    Point::At(at)
+    Point::At(point_runs(front, back, test))
 }

@@ -23,7 +23,7 @@ pub fn ask(slots: &[u32], q: Deque, ask: Ask) -> Looked
         Ask::Get(i) => of_found(looks::get(slots, q, i)),
         Ask::Front => of_found(looks::front(slots, q)),
         Ask::Back => of_found(looks::back(slots, q)),
-        Ask::Contains(x) => of_truth(compare::contains(slots, q, x)),
+        Ask::Contains(x) => of_truth(comparisons::contains(slots, q, x)),
         Ask::SliceRanges(start, end) => of_ranges(runs::slice_ranges(slots, q, start, end)),
         Ask::BinarySearch(x) => of_searched(search::binary_search(slots, q, x)),
         Ask::PartitionPoint(test) => of_point(search::partition_point(slots, q, test)),
@@ -38,7 +38,7 @@ pub fn ask_both(slots: &[u32], q: Deque, other_slots: &[u32], other: Deque, ask:
         ⌝ }
 {
     match ask {
-        AskBoth::Eq => of_truth(compare::eq(slots, q, other_slots, other)),
-        AskBoth::Cmp => of_ordering(compare::cmp(slots, q, other_slots, other)),
+        AskBoth::Eq => of_truth(comparisons::eq(slots, q, other_slots, other)),
+        AskBoth::Cmp => of_ordering(comparisons::cmp(slots, q, other_slots, other)),
     }
 }

@@ -1,7 +1,7 @@
 // What a look saw, in one form.
 use answers::number_of;
-use compare::Ordering;
-use compare::Truth;
+use comparisons::Ordering;
+use comparisons::Truth;
 use queue::Found;
 use queue::Refusal;
 use runs::Ranges;
@@ -12,7 +12,7 @@ ghost use mathlib.Core.Option.{none};
 ghost use mathlib.Core.Path.{_≡_};
 ghost use Rattle.rules.specs.Asks.{count, element, ordered, ranges, spot, truth};
 ghost use Rattle.rules.specs.Looks.{seenAs};
-ghost use Rattle.compare.specs.Answers.{ofOrdering, ofTruth};
+ghost use Rattle.comparisons.specs.Answers.{ofOrdering, ofTruth};
 ghost use Rattle.queue.specs.Answers.{numberOf, ofFound};
 ghost use Rattle.runs.specs.Answers.{ofRanges};
 ghost use Rattle.search.specs.Answers.{ofPoint, ofSearched};

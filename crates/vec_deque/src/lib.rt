@@ -77,11 +77,11 @@ pub use walks::walk_next;
 pub use walks::walk_next_back;
 
 // Comparing.
-pub use compare::Ordering;
-pub use compare::Truth;
-pub use compare::cmp;
-pub use compare::contains;
-pub use compare::eq;
+pub use comparisons::Ordering;
+pub use comparisons::Truth;
+pub use comparisons::cmp;
+pub use comparisons::contains;
+pub use comparisons::eq;
 
 // Searching.
 pub use search::Point;

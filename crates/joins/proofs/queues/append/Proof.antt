@@ -1,23 +1,32 @@
 -- `joins::queues::append` meets its contract. Assumes nothing.
 use mathlib.Core.Path.{_≡_}
 use native.Mathlib.Omega.{arith}
-use borrow.Author.Needs.{needs}
 use denote.Ref.{now}
 use lib.ListN.{length}
 use Rattle.extends.proofs.Asks.{Appends, appends}
-use Rattle.joins.proofs.Pairs.{append-refused, append-none, append-done}
+use Rattle.joins.proofs.Pairs.{append-refused, append-done}
 use Rattle.queue.proofs.Checks.{passed-zero}
+use Rattle.rules.proofs.Refusals.{change-queue}
 use Rattle.queue.specs.Answers.{recOf}
-use Rattle.extends.proofs.Behind.{place-in}
+use Rattle.rules.proofs.Places.{place-good}
 use Rattle.rules.specs.Pairs.{onAppending}
+use borrow.Author.Needs.{needs}
 use Rattle.joins.proofs.queues.append.Statement.{statement}
 use Rattle.joins.proofs.queues.append.Tie as tie
 
 -- past the tests nothing is refused
-past : (c : tie.After-enum-told) → onAppending (length (now (c .before .before .before .before .before .args .slots))) (recOf (c .before .before .before .before .before .args .q)) (length (now (c .before .before .before .before .before .args .other-slots))) (recOf (c .before .before .before .before .before .args .other)) ≡ 0
+past : (c : tie.After-enum-told)
+    → onAppending (length (now (c .before .before .before .before .before .args .slots)))
+    (recOf (c .before .before .before .before .before .args .q))
+    (length (now (c .before .before .before .before .before .args .other-slots)))
+    (recOf (c .before .before .before .before .before .args .other)) ≡ 0
 past c = passed-zero _ _ (c .before .before .check-append .ensures) (c .enum-told .given .1)
 
-ok : (c : tie.After-enum-told) → Appends (now (c .before .before .before .before .before .args .slots)) (recOf (c .before .before .before .before .before .args .q)) (now (c .before .before .before .before .before .args .other-slots)) (recOf (c .before .before .before .before .before .args .other))
+ok : (c : tie.After-enum-told)
+    → Appends (now (c .before .before .before .before .before .args .slots))
+    (recOf (c .before .before .before .before .before .args .q))
+    (now (c .before .before .before .before .before .args .other-slots))
+    (recOf (c .before .before .before .before .before .args .other))
 ok c = appends _ _ _ _ (past c)
 
 check-append-requires : tie.Need-check-append-requires
@@ -32,23 +41,25 @@ returns c = append-refused _ _ _ _ _ _ (c .before .before .before .check-append 
 enum-told : tie.Need-enum-told
 enum-told c = search needs
 
-zero-requires : tie.Need-zero-requires
-zero-requires c κs = search needs
+wrap-add-requires : tie.Need-wrap-add-requires
+wrap-add-requires c κs = let k = ok (c .before) in omega arith
+
+copy-range-requires : tie.Need-copy-range-requires
+copy-range-requires c κs =
+    let k = ok (c .before .before .before) in
+    let g = k .ok .good in (
+      (change-queue _ _ 0 (k .theirs), omega arith),
+      (omega (arith, place-good _ _ (g .placed) _ (g .fits), c .before .wrap-add .ensures), omega arith, k .ok .few),
+    )
+
+add-stepped : tie.Need-add-stepped
+add-stepped c = let k = ok (c .before .before .before .before .before .before) in omega arith
 
 stepped-requires : tie.Need-stepped-requires
 stepped-requires c κs = search needs
 
-returns-2 : tie.Need-returns-2
-returns-2 c = append-none _ _ _ _ (past (c .before .before .before)) _ (c .before .before .zero .ensures) _ (c .before .stepped .ensures) (c .if1 .taken)
-
-wrap-add-requires : tie.Need-wrap-add-requires
-wrap-add-requires c κs = let k = ok (c .before .before .before .before .before) in omega arith
-
-copy-later-requires : tie.Need-copy-later-requires
-copy-later-requires c κs = let k = ok (c .before .before .before .before .before .before) in (ok (c .before .before .before .before .before .before) .theirs, (omega arith, omega arith, place-in _ _ _ _ (c .wrap-add .ensures) (omega arith) (omega arith), k .ok .few))
-
-add-stepped : tie.Need-add-stepped
-add-stepped c = let k = ok (c .before .before .before .before .before .before .before .before .before) in omega arith
+zero-requires : tie.Need-zero-requires
+zero-requires c κs = search needs
 
 stepped-requires-2 : tie.Need-stepped-requires-2
 stepped-requires-2 c κs = search needs
@@ -56,8 +67,12 @@ stepped-requires-2 c κs = search needs
 same-length : tie.Need-same-length
 same-length c = search needs
 
-returns-3 : tie.Need-returns-3
-returns-3 c = append-done _ _ _ _ (past (c .before .before .before .before .before .before .before .before .before .before)) _ (c .before .before .before .before .before .before .before .before .before .zero .ensures) _ (c .before .before .before .before .before .before .before .before .stepped .ensures) _ _ _ (c .before .before .before .before .before .before .before .if1 .left) (c .before .before .before .before .wrap-add .ensures) (c .before .before .before .copy-later .ensures) (c .stepped2 .ensures)
+returns-2 : tie.Need-returns-2
+returns-2 c =
+    append-done _ _ _ _ (past (c .before .before .before .before .before .before .before .before .before)) _ _ _ _ _
+    (c .before .before .before .before .before .before .before .wrap-add .ensures)
+    (c .before .before .before .before .before .copy-range .ensures) (c .before .zero .ensures)
+    (c .before .before .stepped .ensures) (c .stepped2 .ensures)
 
 pub append-spec : {M : Type 1} → statement M
 append-spec =
@@ -67,12 +82,11 @@ append-spec =
     enum-known-refusal
     returns
     enum-told
-    zero-requires
-    stepped-requires
-    returns-2
     wrap-add-requires
-    copy-later-requires
+    copy-range-requires
     add-stepped
+    stepped-requires
+    zero-requires
     stepped-requires-2
     same-length
-    returns-3)
+    returns-2)

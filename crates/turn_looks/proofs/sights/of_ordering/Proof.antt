@@ -1,7 +1,7 @@
 -- `turn_looks::sights::of_ordering` meets its contract. Assumes nothing.
 use Rattle.rules.specs.Asks.{ordered}
 use Rattle.rules.specs.Looks.{seenAs, refusedBy, seenBy}
-use Rattle.compare.specs.Answers.{ofOrdering}
+use Rattle.comparisons.specs.Answers.{ofOrdering}
 use Rattle.turn_looks.proofs.Known.{arm}
 use borrow.Author.Needs.{needs}
 use Rattle.turn_looks.proofs.sights.of_ordering.Statement.{statement}

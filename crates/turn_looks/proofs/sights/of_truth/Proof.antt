@@ -1,7 +1,7 @@
 -- `turn_looks::sights::of_truth` meets its contract. Assumes nothing.
 use Rattle.rules.specs.Asks.{truth}
 use Rattle.rules.specs.Looks.{seenAs, refusedBy, seenBy}
-use Rattle.compare.specs.Answers.{ofTruth}
+use Rattle.comparisons.specs.Answers.{ofTruth}
 use Rattle.turn_looks.proofs.Known.{arm}
 use borrow.Author.Needs.{needs}
 use Rattle.turn_looks.proofs.sights.of_truth.Statement.{statement}

@@ -1,0 +1,2 @@
+-- `Copied`: a range of a queue, copied.
+pub mod Copied
