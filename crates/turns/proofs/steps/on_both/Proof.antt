@@ -68,7 +68,12 @@ same-length-2 : tie.Need-same-length-2
 same-length-2 c = search needs
 
 returns-3 : tie.Need-returns-3
-returns-3 c = first-known _ _ _ _ _ _ (c .before .before .before .before .before .before .before .before .before .before .before .before .first .given .1) _ (second-known _ _ _ _ _ _ (c .before .before .before .before .before .before .before .before .before .second .given .1) _ (pair-call-known _ _ _ _ _ _ _ (c .before .before .before .before .before .before .enum-told3 .given .1) (appended _ _ _ _ _ _ _ _ (c .of-joined .ensures _) (c .before .before .before .append .ensures))))
+returns-3 c =
+    let m = c .before .before .before .before .before .before in
+    first-known _ _ _ _ _ _ (m .before .before .before .before .before .before .first .given .1) _
+    (second-known _ _ _ _ _ _ (m .before .before .before .second .given .1) _
+    (pair-call-known _ _ _ _ _ _ _ (m .enum-told3 .given .1)
+    (appended _ _ _ _ _ _ _ _ (c .of-joined .ensures _) (c .before .before .before .append .ensures))))
 
 same-length-3 : tie.Need-same-length-3
 same-length-3 c = search needs
@@ -77,7 +82,12 @@ same-length-4 : tie.Need-same-length-4
 same-length-4 c = search needs
 
 returns-4 : tie.Need-returns-4
-returns-4 c = first-known _ _ _ _ _ _ (c .before .before .before .before .before .before .before .before .before .before .before .before .before .first .given .1) _ (second-known _ _ _ _ _ _ (c .before .before .before .before .before .before .before .before .before .before .second .given .1) _ (pair-call-known _ _ _ _ _ _ _ (c .before .before .before .before .before .before .before .call .given .1) (split _ _ _ _ _ _ _ _ _ (c .of-split .ensures) (c .before .before .before .split-off .ensures))))
+returns-4 c =
+    let m = c .before .before .before .before .before .before in
+    first-known _ _ _ _ _ _ (m .before .before .before .before .before .before .before .first .given .1) _
+    (second-known _ _ _ _ _ _ (m .before .before .before .before .second .given .1) _
+    (pair-call-known _ _ _ _ _ _ _ (m .before .call .given .1)
+    (split _ _ _ _ _ _ _ _ _ (c .of-split .ensures) (c .before .before .before .split-off .ensures))))
 
 same-length-5 : tie.Need-same-length-5
 same-length-5 c = search needs
@@ -86,7 +96,12 @@ same-length-6 : tie.Need-same-length-6
 same-length-6 c = search needs
 
 returns-5 : tie.Need-returns-5
-returns-5 c = first-known _ _ _ _ _ _ (c .before .before .before .before .before .before .before .before .before .before .before .first .given .1) _ (second-known _ _ _ _ _ _ (c .before .before .before .before .before .before .before .before .second .given .1) _ (pair-call-known _ _ _ _ _ _ _ (c .before .before .before .before .before .call2 .given .1) (compared _ _ _ _ _ _ _ (c .of-looked .ensures) (c .before .ask-both .ensures))))
+returns-5 c =
+    let m = c .before .before .before .before .before .before in
+    first-known _ _ _ _ _ _ (m .before .before .before .before .before .first .given .1) _
+    (second-known _ _ _ _ _ _ (m .before .before .second .given .1) _
+    (pair-call-known _ _ _ _ _ _ _ (c .before .before .before .before .before .call2 .given .1)
+    (compared _ _ _ _ _ _ _ (c .of-looked .ensures) (c .before .ask-both .ensures))))
 
 pub on-both-spec : {M : Type 1} → statement M
 on-both-spec =

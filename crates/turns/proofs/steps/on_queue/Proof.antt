@@ -43,13 +43,20 @@ same-length : tie.Need-same-length
 same-length c = search needs
 
 returns-2 : tie.Need-returns-2
-returns-2 c = λ y. first-known _ y _ _ _ _ (c .before .before .before .before .before .before .before .before .before .first .given .1) _ (queue-call-known _ _ y _ _ _ _ _ _ (c .before .before .before .before .before .before .call .given .1) (changed _ y _ _ _ _ _ _ (c .with-other .ensures) (c .before .before .before .change .ensures)))
+returns-2 c = λ y.
+    let m = c .before .before .before .before .before .before in
+    first-known _ y _ _ _ _ (m .before .before .before .first .given .1) _
+    (queue-call-known _ _ y _ _ _ _ _ _ (m .call .given .1)
+    (changed _ y _ _ _ _ _ _ (c .with-other .ensures) (c .before .before .before .change .ensures)))
 
 same-length-2 : tie.Need-same-length-2
 same-length-2 c = search needs
 
 returns-3 : tie.Need-returns-3
-returns-3 c = λ y. first-known _ y _ _ _ _ (c .before .before .before .before .before .before .before .first .given .1) _ (queue-call-known _ _ y _ _ _ _ _ _ (c .before .before .before .before .call2 .given .1) (asked _ y _ _ _ _ _ (c .of-looked .ensures) (c .before .ask .ensures)))
+returns-3 c = λ y.
+    first-known _ y _ _ _ _ (c .before .before .before .before .before .before .before .first .given .1) _
+    (queue-call-known _ _ y _ _ _ _ _ _ (c .before .before .before .before .call2 .given .1)
+    (asked _ y _ _ _ _ _ (c .of-looked .ensures) (c .before .ask .ensures)))
 
 pub on-queue-spec : {M : Type 1} → statement M
 on-queue-spec =
