@@ -1,2 +1,3 @@
--- What a reply says in the terms of the rules.
-pub mod Replies
+-- The one form of all answers as the contracts read it.
+pub mod Sights
+pub mod Answers

@@ -13,9 +13,9 @@ use Rattle.rules.specs.Refusals.{onQueue}
 use Rattle.rules.specs.Runs.{frontRun, backRun}
 use Rattle.runs.proofs.Asks.{asks-refused, asks-seen}
 use Rattle.runs.proofs.Whole.{runs-held}
-use Rattle.queue.specs.declared.Refusal.{Refusal}
-use Rattle.queue.specs.declared.Checked.{Checked}
-use Rattle.queue.specs.declared.Checked.the-variants.{Refused as Failed}
+use Rattle.queue.specs.declared.refusals.Refusal.{Refusal}
+use Rattle.queue.specs.declared.refusals.Checked.{Checked}
+use Rattle.queue.specs.declared.refusals.Checked.the-variants.{Refused as Failed}
 
 -- front and back are the runs of the whole queue: f sees their list
 pub seen-in-runs : {A : Type 0} (f : List ℕ → A) (b : List ℕ) (r : Rec) → onQueue (length b) r 0 ≡ 0

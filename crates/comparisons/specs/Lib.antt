@@ -1,3 +1,2 @@
--- The answers as the public contracts read them, and what two lists have in common.
-pub mod Answers
+-- What two lists have in common.
 pub mod Common

@@ -1,11 +1,11 @@
 // Lists in two runs, a front run and a back run behind it: whether a number stands in one, and how two of them stand to each other.
-use super::Ordering;
+use queue::Ordering;
 ghost use lib.ListN.{length, getD};
 ghost use mathlib.Core.List.{_++_};
 ghost use mathlib.Core.Path.{_≡_};
 ghost use Prim.Native.Nat.{_+_, _<_};
 ghost use Rattle.rules.specs.Looks.{sees, has, same, order};
-ghost use Rattle.comparisons.specs.Answers.{ofOrdering};
+ghost use Rattle.queue.specs.Looks.{ofOrdering};
 ghost use Rattle.comparisons.specs.Common.{commonLength};
 
 // Whether x stands in one of the two runs: the first hit ends the walk over both at once.

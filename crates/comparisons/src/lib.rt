@@ -6,26 +6,13 @@ pub use in_runs::same_runs;
 pub use in_runs::stands_in;
 use queue::Checked;
 use queue::Deque;
-use queue::Refusal;
+use queue::Ordering;
+use queue::Truth;
 ghost use mathlib.Core.Path.{_≡_};
 ghost use Rattle.rules.specs.Looks.{lookAt, lookAtBoth, has, same, order};
 ghost use Rattle.rules.specs.Refusals.{onQueue};
 ghost use Rattle.queue.specs.Answers.{recOf, numberIn};
-ghost use Rattle.comparisons.specs.Answers.{ofTruth, ofOrdering};
-
-// The answer to a yes-or-no question.
-pub enum Truth {
-    Is(bool),
-    Refused(Refusal),
-}
-
-// How two lists stand to each other.
-pub enum Ordering {
-    Less,
-    Equal,
-    Greater,
-    Refused(Refusal),
-}
+ghost use Rattle.queue.specs.Looks.{ofTruth, ofOrdering};
 
 // Whether x stands in the queue.
 pub fn contains(slots: &[u32], q: Deque, x: u32) -> Truth

@@ -2,28 +2,23 @@
 use mathlib.Core.List.{List}
 use mathlib.Core.Logic.{_≢_}
 use mathlib.Core.Option.{none, some}
-use mathlib.Core.Path.{_≡_, _∙_, ap, sym, refl}
-use Prim.Native.Nat.{ℕ, _≤_, suc, _-_, _<_, _+_}
+use mathlib.Core.Path.{_≡_, _∙_, ap, refl}
+use Prim.Native.Nat.{ℕ, suc, _-_, _+_}
 use native.Mathlib.Omega.{arith}
 use lib.ListN.{length, getD}
-use Rattle.drains.proofs.Ranges.{range-in}
 use Rattle.queue.proofs.Checks.{failed-number}
 use Rattle.queue.proofs.Numbers.{some-number}
 use Rattle.queue.specs.Answers.{numberIn, numberOf}
-use Rattle.rules.proofs.Drains.{drain-ok}
 use Rattle.rules.proofs.Refusals.{change-stop, change-go}
-use Rattle.rules.proofs.Slots.{getD-listOf}
 use Rattle.rules.proofs.Tests.{unless-stop, unless-go}
-use Rattle.rules.specs.Drains.{Drain, opened, onDrain, spread, fromFront, fromBack, asOpened}
+use Rattle.rules.specs.Drains.{Drain, opened, onDrain, fromFront, fromBack, asOpened}
 use Rattle.rules.specs.Outcome.{shut, told, doOpen, unchanged, drawn, Outcome, handsOver, doNext, nextOf, doNextBack, nextBackOf}
-use Rattle.rules.specs.Places.{place}
 use Rattle.rules.specs.Records.{Rec, held}
 use Rattle.rules.specs.Refusals.{onChange, inRange, onTaking}
 use Rattle.rules.specs.Tests.{unless}
-use Rattle.queue.specs.declared.Refusal.{Refusal}
-use Rattle.queue.specs.declared.Refusal.the-variants.{Position}
-use Rattle.queue.specs.declared.Checked.{Checked}
-use Rattle.queue.specs.declared.Checked.the-variants.{Refused as Failed}
+use Rattle.queue.specs.declared.refusals.Refusal.{Refusal}
+use Rattle.queue.specs.declared.refusals.Checked.{Checked}
+use Rattle.queue.specs.declared.refusals.Checked.the-variants.{Refused as Failed}
 
 -- ---- opening
 
@@ -41,14 +36,16 @@ module _ (b : List ℕ) (r : Rec) (s e : ℕ) where
 
   module _ (first : onChange (length b) r 0 ≡ 0) where
     -- by the range
-    pub open-range : inRange (r .len) s e 0 ≡ 3 → (record { refused = numberOf Position; moved = 0; held = shut r; handed = none }, b) ≡ told (doOpen b r s e)
-    unfolding onTaking numberOf
-    open-range z = stopped 3 (λ e. omega arith) (change-go (length b) r _ first ∙ z)
+    pub open-range : (x : Refusal) → inRange (r .len) s e 0 ≡ numberOf x
+        → (record { refused = numberOf x; moved = 0; held = shut r; handed = none }, b) ≡ told (doOpen b r s e)
+    unfolding onTaking
+    open-range x z = stopped (numberOf x) (some-number x) (change-go (length b) r _ first ∙ z)
 
     -- accepted: the drain's record, and nothing is written
-    pub opens : (d : Drain) → s ≤ e → e ≤ r .len → d ≡ opened r s e → (record { refused = 0; moved = 0; held = drawn d; handed = none }, b) ≡ told (doOpen b r s e)
+    pub opens : (d : Drain) → inRange (r .len) s e 0 ≡ 0 → d ≡ opened r s e
+        → (record { refused = 0; moved = 0; held = drawn d; handed = none }, b) ≡ told (doOpen b r s e)
     unfolding onTaking doOpen unchanged
-    opens d le le′ made = rw (change-go (length b) r _ first ∙ range-in (r .len) s e 0 le le′, unless-go, made)
+    opens d ranged made = rw (change-go (length b) r _ first ∙ ranged, unless-go, made)
 
 -- ---- handing over
 
@@ -61,15 +58,14 @@ module _ (b : List ℕ) (d : Drain) (first : onDrain (length b) d ≡ 0) where
     unfolding unchanged unless
     draws-none none-done z = rw (first, ap step z, none-done)
 
-    -- v, the element at position i of the list in the slots, is handed over
-    draws-some : (i v : ℕ) (d′ : Drain) → step (suc (d .remaining - 1)) ≡ handsOver b d′ (getD (held b (asOpened d)) i 0) → i < spread d → d .remaining ≢ 0
-        → v ≡ getD b (place (length b) (d .head) i) 0
+    -- v, the element at position i of the list in the slots, is handed over; r is the record that it was read by
+    draws-some : (i v : ℕ) (d′ : Drain) → step (suc (d .remaining - 1)) ≡ handsOver b d′ (getD (held b (asOpened d)) i 0)
+        → d .remaining ≢ 0 → (r : Rec) → r ≡ asOpened d → v ≡ getD (held b r) i 0
         → (record { refused = 0; moved = 0; held = drawn d′; handed = some v }, b) ≡ told (unless (onDrain (length b) d) (step (d .remaining)) (unchanged b (drawn d) (onDrain (length b) d)))
-    unfolding handsOver unless held
-    draws-some i v d′ done in-list some-left from-slot =
-        let g = drain-ok (length b) d first .1 in
+    unfolding handsOver unless
+    draws-some i v d′ done some-left r whole is =
         let many : d .remaining ≡ suc (d .remaining - 1) = omega arith in
-        rw (first, from-slot ∙ sym (getD-listOf b (d .head) (omega arith) _ i (g .whole .fits) in-list), ap step many, done)
+        rw (first, is, whole, ap step many, done)
 
   -- `next` and `next_back` by these
   pub next-none : d .remaining ≡ 0 → (record { refused = 0; moved = 0; held = drawn d; handed = none }, b) ≡ told (doNext b d)
@@ -80,16 +76,14 @@ module _ (b : List ℕ) (d : Drain) (first : onDrain (length b) d ≡ 0) where
   unfolding doNextBack nextBackOf
   next-back-none = draws-none (nextBackOf b d) refl
 
-  pub next-some : (v : ℕ) (d′ : Drain) → d′ ≡ fromFront d → d .remaining ≢ 0 → v ≡ getD b (place (length b) (d .head) (d .idx)) 0
+  pub next-some : (v : ℕ) (d′ : Drain) → d′ ≡ fromFront d → d .remaining ≢ 0
+      → (r : Rec) → r ≡ asOpened d → v ≡ getD (held b r) (d .idx) 0
       → (record { refused = 0; moved = 0; held = drawn d′; handed = some v }, b) ≡ told (doNext b d)
   unfolding doNext nextOf
-  next-some v d′ made some-left from-slot =
-      let g = drain-ok (length b) d first .1 in
-      rw made (draws-some (nextOf b d) (d .idx) v (fromFront d) refl (omega arith) some-left from-slot)
+  next-some v d′ made = rw made (draws-some (nextOf b d) (d .idx) v (fromFront d) refl)
 
-  pub next-back-some : (v : ℕ) (d′ : Drain) → d′ ≡ fromBack d → d .remaining ≢ 0 → v ≡ getD b (place (length b) (d .head) (d .idx + (d .remaining - 1))) 0
+  pub next-back-some : (v : ℕ) (d′ : Drain) → d′ ≡ fromBack d → d .remaining ≢ 0
+      → (r : Rec) → r ≡ asOpened d → v ≡ getD (held b r) (d .idx + (d .remaining - 1)) 0
       → (record { refused = 0; moved = 0; held = drawn d′; handed = some v }, b) ≡ told (doNextBack b d)
   unfolding doNextBack nextBackOf
-  next-back-some v d′ made some-left from-slot =
-      let g = drain-ok (length b) d first .1 in
-      rw made (draws-some (nextBackOf b d) (d .idx + (d .remaining - 1)) v (fromBack d) refl (omega arith) some-left from-slot)
+  next-back-some v d′ made = rw made (draws-some (nextBackOf b d) (d .idx + (d .remaining - 1)) v (fromBack d) refl)

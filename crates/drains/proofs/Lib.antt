@@ -1,5 +1,3 @@
 -- What each return of the four calls tells.
-pub mod Checks
-pub mod Ranges
 pub mod Draws
 pub mod Closes

@@ -1,9 +1,9 @@
 -- What a pop by a condition answers. Assumes nothing.
 use Rattle.rules.specs.Conditions.{Test, meets}
 use Rattle.rules.specs.Tests.{whether}
-use Rattle.queue.specs.declared.Deque.{Deque}
-use Rattle.queue.specs.declared.Handed.{Handed}
-use Rattle.queue.specs.declared.Handed.the-variants.{Number, Nothing, Refused}
+use Rattle.queue.specs.declared.records.Deque.{Deque}
+use Rattle.elements.specs.declared.answers.Handed.{Handed}
+use Rattle.elements.specs.declared.answers.Handed.the-variants.{Number, Nothing, Refused}
 
 -- a pop's answer where its element meets the test; where it does not, or where there is none, Nothing, without change of q
 unfoldable pub onlyIf : Test → Deque → Handed → Handed

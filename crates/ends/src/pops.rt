@@ -1,12 +1,13 @@
 // The calls that hand the element at an end over. They only read: what a pop takes out stays in its slot.
 use conditions::Test;
+use elements::Handed;
 use queue::Checked;
 use queue::Deque;
-use queue::Handed;
 ghost use mathlib.Core.Path.{_≡_};
 ghost use Rattle.rules.specs.Ends.{popFront, popBack, popFrontIf, popBackIf};
 ghost use Rattle.rules.specs.Outcome.{told, doRule};
-ghost use Rattle.queue.specs.Answers.{recOf, ofHanded};
+ghost use Rattle.queue.specs.Answers.{recOf};
+ghost use Rattle.elements.specs.Answers.{ofHanded};
 ghost use Rattle.conditions.specs.Tests.{testOf};
 ghost use Rattle.ends.specs.Conditional.{onlyIf};
 

@@ -12,5 +12,5 @@ ghost use Rattle.replies.specs.Replies.{ofReply};
 pub extern "C" fn scorebucket_fresh(slots: &[u32], q: &mut [usize; 2]) -> Reply
     ensures { λ r. ⌜ (ofReply r, recIn (now (q .exit)), now (slots .entry)) ≡ makingToldInC (recIn (now (q .entry))) (fresh (now (slots .entry))) ⌝ }
 {
-    made(q, queue::fresh(slots))
+    made(q, elements::fresh(slots))
 }

@@ -25,10 +25,10 @@ use Rattle.rules.specs.Records.{Rec, held, stepped}
 use Rattle.rules.specs.Refusals.{onChange, room}
 use Rattle.rules.specs.Rule.{Rule, numbers}
 use Rattle.rules.specs.Slots.{lay, listOf}
-use Rattle.queue.specs.declared.Refusal.{Refusal}
-use Rattle.queue.specs.declared.Refusal.the-variants.{Room}
-use Rattle.queue.specs.declared.Checked.{Checked}
-use Rattle.queue.specs.declared.Checked.the-variants.{Refused as Failed}
+use Rattle.queue.specs.declared.refusals.Refusal.{Refusal}
+use Rattle.queue.specs.declared.refusals.Refusal.the-variants.{Room}
+use Rattle.queue.specs.declared.refusals.Checked.{Checked}
+use Rattle.queue.specs.declared.refusals.Checked.the-variants.{Refused as Failed}
 
 -- ---- a lent slice
 

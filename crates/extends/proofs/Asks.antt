@@ -14,10 +14,10 @@ use Rattle.rules.specs.Pairs.{onAppending, onSplitting}
 use Rattle.rules.specs.Records.{Rec}
 use Rattle.rules.specs.Refusals.{onChange, room, mostSlots, onSlots}
 use Rattle.rules.specs.Tests.{ask}
-use Rattle.queue.specs.declared.Refusal.{Refusal}
-use Rattle.queue.specs.declared.Refusal.the-variants.{Slots, Position, Room}
-use Rattle.queue.specs.declared.Checked.{Checked}
-use Rattle.queue.specs.declared.Checked.the-variants.{Refused as Failed}
+use Rattle.queue.specs.declared.refusals.Refusal.{Refusal}
+use Rattle.queue.specs.declared.refusals.Refusal.the-variants.{Slots, Position, Room}
+use Rattle.queue.specs.declared.refusals.Checked.{Checked}
+use Rattle.queue.specs.declared.refusals.Checked.the-variants.{Refused as Failed}
 
 module _ (c : ℕ) (r : Rec) where
   -- 1 or 2 of a queue is given, whatever is asked after

@@ -2,16 +2,14 @@
 use places::WrappedIndex;
 ghost use mathlib.Core.Path.{_≡_};
 ghost use Prim.Native.Nat.{_+_, _-_, _≤_, _<_};
-ghost use lib.Dec.{eqb};
 ghost use lib.ListN.{length};
 ghost use Rattle.rules.specs.Places.{place};
 ghost use Rattle.rules.specs.Refusals.{mostSlots};
 ghost use Rattle.rules.specs.Slots.{copied};
-ghost use Rattle.rules.specs.Tests.{whether};
 ghost use Rattle.holes.specs.Holes.{HoleClosed, SideMoves};
 
-// Where a queue begins once its hole is closed, and how many elements moved for it.
-pub struct Joined {
+// Where a queue begins once its elements have moved, and how many did.
+pub struct Settled {
     pub head: WrappedIndex,
     pub moved: usize,
 }
@@ -86,12 +84,12 @@ pub fn close_hole(
     new: usize,
     hole: usize,
     tail: usize,
-) -> Joined
+) -> Settled
     requires { ⌜ (head .0 ≤ length (now slots) - 1) × (start + new + hole + tail ≤ length (now slots)) × (length (now slots) ≤ mostSlots) ⌝ }
     ensures { λ r. ⌜ HoleClosed (now (slots .entry)) (now (slots .exit)) (head .0) start new hole tail (r .head .0) (r .moved) ⌝ }
 {
     if hole == 0 {
-        return Joined { head, moved: 0 };
+        return Settled { head, moved: 0 };
     }
     // one call for either side, so that the copy stands in the closing itself when it is compiled
     let side = shorter_side(slots.len(), head, start, new, hole, tail);
@@ -100,15 +98,5 @@ pub fn close_hole(
     let next = side.head;
     let moved = side.n;
     copies::wrap_copy(slots, src, dst, moved);
-    Joined { head: next, moved }
-}
-
-// The head of a queue of `len` elements: the first slot if nothing remains.
-pub fn head_over(head: WrappedIndex, len: usize) -> WrappedIndex
-    ensures { λ r. ⌜ r .0 ≡ whether (eqb len 0) 0 (head .0) ⌝ }
-{
-    if len == 0 {
-        return WrappedIndex::zero();
-    }
-    head
+    Settled { head: next, moved }
 }

@@ -23,7 +23,7 @@ use Rattle.rules.specs.Records.{Rec, newRec}
 use Rattle.rules.specs.Refusals.{mostSlots, onSlots, onLayout, room}
 use Rattle.rules.specs.Slots.{lay}
 use Rattle.rules.specs.Tests.{ask, unless}
-use Rattle.queue.specs.declared.Refusal.the-variants.{Slots, Room, Image}
+use Rattle.queue.specs.declared.refusals.Refusal.the-variants.{Slots, Room, Image}
 
 -- ---- the layout: one law for each return of `laid_out`
 

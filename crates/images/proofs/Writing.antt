@@ -22,8 +22,8 @@ use Rattle.rules.specs.Records.{Rec, held}
 use Rattle.rules.specs.Refusals.{onQueue}
 use Rattle.rules.specs.Slots.{listOf, read}
 use Rattle.rules.specs.Tests.{unless}
-use Rattle.queue.specs.declared.Refusal.{Refusal}
-use Rattle.queue.specs.declared.Refusal.the-variants.{Room}
+use Rattle.queue.specs.declared.refusals.Refusal.{Refusal}
+use Rattle.queue.specs.declared.refusals.Refusal.the-variants.{Room}
 
 -- ---- the elements, one by one
 

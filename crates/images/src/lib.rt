@@ -4,6 +4,7 @@ use queue::Checked;
 use queue::Deque;
 use queue::Made;
 use queue::Refusal;
+use queue::Written;
 ghost use mathlib.Core.Path.{_≡_};
 ghost use mathlib.Core.List.{_∷_, [], _++_};
 ghost use Prim.Native.Nat.{_+_, _*_, _-_, _≤_, _<_};
@@ -13,13 +14,8 @@ ghost use Rattle.rules.specs.Images.{mostShort, twoBytes, fourBytes, bigEndian,
 ghost use Rattle.rules.specs.Makes.{toldMaking, readImage};
 ghost use Rattle.rules.specs.Slots.{lay, listOf};
 ghost use Rattle.queue.specs.Answers.{recOf, ofMade};
-ghost use Rattle.images.specs.Answers.{ofWritten, toldWriting};
-
-// The answer of image writing: how many bytes were filled.
-pub enum Written {
-    Bytes(usize),
-    Refused(Refusal),
-}
+ghost use Rattle.queue.specs.Looks.{ofWritten};
+ghost use Rattle.images.specs.Answers.{toldWriting};
 
 // The number that stands for one byte more behind those that `n` stands for.
 fn with_byte(n: u32, byte: u8) -> u32

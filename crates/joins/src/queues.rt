@@ -1,14 +1,14 @@
 // Another queue's elements behind ours, and our later elements into a bare target.
-use super::Joined;
-use super::Split;
 use places::WrappedIndex;
 use queue::Checked;
 use queue::Deque;
+use queue::Joined;
 use queue::Refusal;
+use queue::Split;
 ghost use mathlib.Core.Path.{_≡_};
 ghost use Rattle.rules.specs.Pairs.{onAppending, onSplitting, doAppend, doSplit, toldPairing};
 ghost use Rattle.queue.specs.Answers.{recOf, numberIn};
-ghost use Rattle.joins.specs.Answers.{ofJoined, ofSplit};
+ghost use Rattle.queue.specs.Pairs.{ofJoined, ofSplit};
 
 // The tests of `append`, in their order: our queue's, the other's, then whether the other's elements fit behind ours.
 fn check_append(cap: usize, q: Deque, other_cap: usize, other: Deque) -> Checked

@@ -7,7 +7,7 @@ use Rattle.lines.proofs.Puts.{puts-append, puts-as, puts-none}
 use Rattle.journals.specs.Records.{entryFor}
 use Rattle.lines.specs.Puts.{Puts, fourNumbers}
 use Rattle.rules.specs.Journals.{Entry}
-use Rattle.rules.specs.Outcome.{Answer, shut}
+use Rattle.rules.specs.Outcome.{Answer}
 use Rattle.rules.specs.Records.{Rec}
 use Rattle.rules.specs.Replays.{space, newline, decimal, spaced, lineOf, numberOrNone, handedWord, answerLine, brokenLine, recOr}
 use Rattle.journals.specs.declared.records.Operation.{Operation}
@@ -91,11 +91,14 @@ module _ (t t1 t2 t3 t4 : List ℕ) (p a b c q : ℕ) where
           ∙ sym (spaced-append (u ∷ v ∷ []) (w ∷ []))
 
 module _ (t t1 t2 t3 : List ℕ) (p a b q : ℕ) where
-  pub puts-answer : (r : Rec) (e : Entry) (x : Answer) (r′ : Rec) → x .held ≡ shut r′ → Puts t t1 p a (fourNumbers (x .refused) (x .moved) r′)
+  pub puts-answer : (r : Rec) (e : Entry) (x : Answer) (r′ : Rec) → r′ ≡ recOr r (x .held)
+      → Puts t t1 p a (fourNumbers (x .refused) (x .moved) r′)
       → Puts t1 t2 a b (spaced (handedWord e (x .handed))) → Puts t2 t3 b q (newline ∷ []) → Puts t t3 p q (answerLine r e x)
-  unfolding answerLine recOr fourNumbers
+  unfolding answerLine fourNumbers
   puts-answer r e x r′ h w y z =
-      puts-as t p t3 q _ _ (rw h (whole-line (decimal (x .refused)) (decimal (x .moved) ∷ decimal (r′ .head) ∷ decimal (r′ .len) ∷ []) (handedWord e (x .handed))))
+      let k = recOr r (x .held) in
+      puts-as t p t3 q _ _
+      (rw h (whole-line (decimal (x .refused)) (decimal (x .moved) ∷ decimal (k .head) ∷ decimal (k .len) ∷ []) (handedWord e (x .handed))))
       (puts-append t p t2 t3 b q _ _ (puts-append t p t1 t2 a b _ _ w y) z)
 
 pub puts-broken : (t t1 t2 : List ℕ) (p a q : ℕ) (r : Rec) → Puts t t1 p a (fourNumbers 5 0 r) → Puts t1 t2 a q (newline ∷ []) → Puts t t2 p q (brokenLine r)

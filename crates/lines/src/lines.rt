@@ -1,7 +1,7 @@
 // The lines of the replay program, as bytes. Each function puts its bytes from a position on, and gives the position behind them.
 use super::decimals::put_decimal;
-use answers::Given;
-use answers::Reply;
+use answers::Answer;
+use elements::Given;
 use journals::Operation;
 use queue::Deque;
 ghost use mathlib.Core.List.{_∷_, [], _++_};
@@ -10,7 +10,8 @@ ghost use lib.ListN.{length};
 ghost use Rattle.rules.specs.Replays.{answerLine, brokenLine, decimal, handedWord, newline, numberOrNone, space, spaced};
 ghost use Rattle.queue.specs.Answers.{recOf};
 ghost use Rattle.journals.specs.Records.{entryFor};
-ghost use Rattle.answers.specs.Replies.{ofGiven, ofReply};
+ghost use Rattle.elements.specs.Answers.{ofGiven};
+ghost use Rattle.answers.specs.Answers.{ofAnswer};
 ghost use Rattle.lines.specs.Puts.{Puts, fourNumbers};
 
 // Puts a newline.
@@ -91,12 +92,20 @@ fn put_numbers(out: &mut [u8], at: usize, refused: usize, moved: usize, q: Deque
     put_word(out, c, q.len)
 }
 
-// Puts the line of a record: what its operation answered.
-pub fn answer_line(out: &mut [u8], at: usize, operation: Operation, done: Reply) -> usize
+// Puts the line of a record: what its operation answered, and the queue, which was `before` ahead of it.
+pub fn answer_line(
+    out: &mut [u8],
+    at: usize,
+    before: Deque,
+    operation: Operation,
+    done: Answer,
+) -> usize
     requires { ⌜ at + 105 ≤ length (now out) ⌝ }
-    ensures { λ r. ⌜ Puts (now (out .entry)) (now (out .exit)) at r (answerLine (recOf (done .queue)) (entryFor operation) (ofReply done)) × (r ≤ at + 105) ⌝ }
+    ensures { λ r. ⌜ Puts (now (out .entry)) (now (out .exit)) at r
+        (answerLine (recOf before) (entryFor operation) (ofAnswer done)) × (r ≤ at + 105) ⌝ }
 {
-    let queue = done.queue;
+    let state = done.state;
+    let queue = answers::record_or(before, state);
     let handed = done.handed;
     let a = put_numbers(out, at, done.refused, done.moved, queue);
     let b = put_handed(out, a, operation, handed);

@@ -1,10 +1,11 @@
 // The calls that look at one element.
+use elements::Found;
 use queue::Checked;
 use queue::Deque;
-use queue::Found;
 ghost use mathlib.Core.Path.{_≡_};
 ghost use Rattle.rules.specs.Looks.{lookAt, atPosition, atBack};
-ghost use Rattle.queue.specs.Answers.{recOf, ofFound};
+ghost use Rattle.queue.specs.Answers.{recOf};
+ghost use Rattle.elements.specs.Answers.{ofFound};
 
 // The element at position i.
 pub fn get(slots: &[u32], q: Deque, i: usize) -> Found

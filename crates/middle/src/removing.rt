@@ -1,8 +1,8 @@
 // `remove`: the shorter side closes the gap of an element. H is the head before, above, and after, below.
+use elements::Handed;
 use places::WrappedIndex;
 use queue::Checked;
 use queue::Deque;
-use queue::Handed;
 ghost use mathlib.Core.Path.{_≡_};
 ghost use Prim.Native.Nat.{_≤_, _<_};
 ghost use lib.ListN.{length};
@@ -11,7 +11,8 @@ ghost use Rattle.rules.specs.Outcome.{told, doRule};
 ghost use Rattle.rules.specs.Places.{place};
 ghost use Rattle.rules.specs.Refusals.{mostSlots};
 ghost use Rattle.rules.specs.Slots.{listOf, lay};
-ghost use Rattle.queue.specs.Answers.{recOf, ofHanded};
+ghost use Rattle.queue.specs.Answers.{recOf};
+ghost use Rattle.elements.specs.Answers.{ofHanded};
 
 // Closes the gap at index by moving the elements behind it.
 fn remove_later(slots: &mut [u32], head: WrappedIndex, len: usize, index: usize)

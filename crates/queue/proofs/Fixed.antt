@@ -3,42 +3,32 @@ use mathlib.Core.Option.{Option, none, some}
 use mathlib.Core.Path.{_≡_, refl, sym, _∙_, ap}
 use Prim.Native.Nat.{ℕ}
 use lib.Dec.{eqb}
-use Rattle.rules.specs.Looks.{Look, refuses, sees}
 use Rattle.rules.specs.Makes.{Making}
 use Rattle.rules.specs.Outcome.{Answer, Held, shut, drawn}
-use Rattle.rules.specs.Records.{Rec, newRec}
+use Rattle.rules.specs.Records.{Rec}
 use Rattle.rules.specs.Tests.{whether}
-use Rattle.queue.specs.Answers.{recOf, numberOf, ofChange, ofHanded, ofMade, ofFound}
-use Rattle.queue.specs.declared.Deque.{Deque}
-use Rattle.queue.specs.declared.Refusal.{Refusal}
-use Rattle.queue.specs.declared.Refusal.the-variants.{Slots, Record, Position, Room, Image}
-use Rattle.queue.specs.declared.Change.{Change}
-use Rattle.queue.specs.declared.Change.the-variants.{Done, Refused}
-use Rattle.queue.specs.declared.Handed.{Handed}
-use Rattle.queue.specs.declared.Handed.the-variants.{Number, Nothing, Refused as NotHanded}
-use Rattle.queue.specs.declared.Made.{Made}
-use Rattle.queue.specs.declared.Made.the-variants.{Done as Ready, Refused as NotMade}
-use Rattle.queue.specs.declared.Found.{Found}
-use Rattle.queue.specs.declared.Found.the-variants.{Number as Seen, Nothing as Unseen, Refused as NotSeen}
+use Rattle.queue.specs.Answers.{numberOf, ofChange, ofMade}
+use Rattle.queue.specs.declared.records.Deque.{Deque}
+use Rattle.queue.specs.declared.refusals.Refusal.{Refusal}
+use Rattle.queue.specs.declared.refusals.Refusal.the-variants.{Slots, Record, Position, Room, Image}
+use Rattle.queue.specs.declared.answers.Change.{Change}
+use Rattle.queue.specs.declared.answers.Change.the-variants.{Done, Refused}
+use Rattle.queue.specs.declared.answers.Made.{Made}
+use Rattle.queue.specs.declared.answers.Made.the-variants.{Done as Ready, Refused as NotMade}
 
 -- ---- the way back, for each kind of answer
 
-named : ℕ → Refusal
+-- the refusal of a number
+unfoldable pub named : ℕ → Refusal
 named n = whether (eqb n 1) Slots (whether (eqb n 2) Record (whether (eqb n 3) Position (whether (eqb n 4) Room Image)))
 
-dequeOf : Held → Deque
+-- the record of a queue
+unfoldable pub dequeOf : Held → Deque
 dequeOf (shut r) = record { head = record { 0 = r .head }; len = r .len }
 dequeOf (drawn d) = record { head = record { 0 = d .head }; len = 0 }
 
 changeOf : Answer → Change
 changeOf a = whether (eqb (a .refused) 0) (Done (dequeOf (a .held)) (a .moved)) (Refused (named (a .refused)) (dequeOf (a .held)) (a .moved))
-
-numberOr : Option ℕ → Deque → ℕ → Handed
-numberOr none q m = Nothing q m
-numberOr (some v) q m = Number v q m
-
-handedOf : Answer → Handed
-handedOf a = whether (eqb (a .refused) 0) (numberOr (a .handed) (dequeOf (a .held)) (a .moved)) (NotHanded (named (a .refused)) (dequeOf (a .held)) (a .moved))
 
 recordOr : Option Rec → ℕ → ℕ → Made
 recordOr none n m = NotMade (named n) m
@@ -46,11 +36,6 @@ recordOr (some r) n m = Ready (dequeOf (shut r)) m
 
 madeOf : Making → Made
 madeOf a = recordOr (a .made) (a .refused) (a .moved)
-
-foundOf : Look (Option ℕ) → Found
-foundOf (refuses n) = NotSeen (named n)
-foundOf (sees none) = Unseen
-foundOf (sees (some v)) = Seen v
 
 -- ---- it leads back
 
@@ -63,16 +48,6 @@ change-back (Refused Position q m) = refl
 change-back (Refused Room q m) = refl
 change-back (Refused Image q m) = refl
 
-handed-back : (a : Handed) → handedOf (ofHanded a) ≡ a
-unfolding handedOf numberOr dequeOf named numberOf whether
-handed-back (Number v q m) = refl
-handed-back (Nothing q m) = refl
-handed-back (NotHanded Slots q m) = refl
-handed-back (NotHanded Record q m) = refl
-handed-back (NotHanded Position q m) = refl
-handed-back (NotHanded Room q m) = refl
-handed-back (NotHanded Image q m) = refl
-
 made-back : (a : Made) → madeOf (ofMade a) ≡ a
 unfolding madeOf recordOr dequeOf named numberOf whether
 made-back (Ready q m) = refl
@@ -82,30 +57,15 @@ made-back (NotMade Position m) = refl
 made-back (NotMade Room m) = refl
 made-back (NotMade Image m) = refl
 
-found-back : (a : Found) → foundOf (ofFound a) ≡ a
-unfolding foundOf named numberOf whether
-found-back (Seen v) = refl
-found-back Unseen = refl
-found-back (NotSeen Slots) = refl
-found-back (NotSeen Record) = refl
-found-back (NotSeen Position) = refl
-found-back (NotSeen Room) = refl
-found-back (NotSeen Image) = refl
-
 -- ---- so one answer is left
 
 -- what has a way back is fixed by what is said of it
-fixed : {A B : Type 0} (say : A → B) (back : B → A) → ((a : A) → back (say a) ≡ a) → (a b : A) → say a ≡ say b → a ≡ b
+pub fixed : {A B : Type 0} (say : A → B) (back : B → A) → ((a : A) → back (say a) ≡ a)
+    → (a b : A) → say a ≡ say b → a ≡ b
 fixed say back leads a b e = sym (leads a) ∙ ap back e ∙ leads b
 
 pub one-change : (a b : Change) → ofChange a ≡ ofChange b → a ≡ b
 one-change = fixed ofChange changeOf change-back
 
-pub one-handed : (a b : Handed) → ofHanded a ≡ ofHanded b → a ≡ b
-one-handed = fixed ofHanded handedOf handed-back
-
 pub one-made : (a b : Made) → ofMade a ≡ ofMade b → a ≡ b
 one-made = fixed ofMade madeOf made-back
-
-pub one-found : (a b : Found) → ofFound a ≡ ofFound b → a ≡ b
-one-found = fixed ofFound foundOf found-back

@@ -11,9 +11,9 @@ use Rattle.rules.specs.Looks.{Look, sees, refuses, looked, lookAt}
 use Rattle.rules.specs.Records.{Rec, held}
 use Rattle.rules.specs.Refusals.{onQueue}
 use Rattle.rules.specs.Tests.{unless}
-use Rattle.queue.specs.declared.Refusal.{Refusal}
-use Rattle.queue.specs.declared.Checked.{Checked}
-use Rattle.queue.specs.declared.Checked.the-variants.{Refused as Failed}
+use Rattle.queue.specs.declared.refusals.Refusal.{Refusal}
+use Rattle.queue.specs.declared.refusals.Checked.{Checked}
+use Rattle.queue.specs.declared.refusals.Checked.the-variants.{Refused as Failed}
 
 module _ {A : Type 0} (b : List ℕ) (r : Rec) (f : List ℕ → A) where
   -- refused by the tests of slots and record, which said t

@@ -1,8 +1,8 @@
 // The last line: `end` and the elements that are left, each after a space.
 use crate::output::Output;
 use crate::output::room;
+use elements::Found;
 use queue::Deque;
-use queue::Found;
 ghost use Prim.Native.Nat.{_≤_};
 ghost use lib.ListN.{length};
 

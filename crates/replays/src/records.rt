@@ -34,8 +34,9 @@ fn play_one(
 {
     let done = journals::perform(slots, queue, operation);
     let free = room(out, written);
-    let at = lines::answer_line(out, free.at, operation, done);
-    let after = done.queue;
+    let at = lines::answer_line(out, free.at, queue, operation, done);
+    let state = done.state;
+    let after = answers::record_or(queue, state);
     let output = Output {
         at,
         open: free.open,

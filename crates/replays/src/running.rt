@@ -106,7 +106,7 @@ pub fn replay(slots: &mut [u32], input: &mut [u8], out: &mut [u8], limit: u64) -
     if out.len() < 105 {
         return refused;
     }
-    let Made::Done { queue, moved: _ } = queue::fresh(slots) else {
+    let Made::Done { queue, moved: _ } = elements::fresh(slots) else {
         return refused;
     };
     let ran = run(slots, queue, input, out, limit);

@@ -3,8 +3,8 @@ use mathlib.Core.Path.{_≡_, refl, sym, _∙_, ap}
 use Prim.Native.Nat.{ℕ, _≤_}
 use native.Mathlib.Omega.{arith}
 use Rattle.queue.specs.Answers.{numberOf}
-use Rattle.queue.specs.declared.Refusal.{Refusal}
-use Rattle.queue.specs.declared.Refusal.the-variants.{Slots, Record, Position, Room, Image}
+use Rattle.queue.specs.declared.refusals.Refusal.{Refusal}
+use Rattle.queue.specs.declared.refusals.Refusal.the-variants.{Slots, Record, Position, Room, Image}
 
 -- the arm makes it of the answer's own parts
 pub arm : {A B C : Type 0} (f : B → C) (o : A → B) (a a′ : A) → a′ ≡ a → f (o a) ≡ f (o a′)

@@ -1,15 +1,16 @@
 // The answers of the calls that change a list or a record. The caller's record is changed where it stands, and what is said beside it fits two registers.
 use super::records::store_deque;
-use joins::Joined;
-use joins::Split;
+use elements::Handed;
 use queue::Change;
-use queue::Handed;
+use queue::Joined;
 use queue::Made;
 use queue::Refusal;
+use queue::Split;
 ghost use mathlib.Core.Option.{none, some};
 ghost use mathlib.Core.Path.{_≡_};
-ghost use Rattle.queue.specs.Answers.{numberOf, ofChange, ofHanded, ofMade};
-ghost use Rattle.joins.specs.Answers.{ofJoined, ofSplit};
+ghost use Rattle.queue.specs.Answers.{numberOf, ofChange, ofMade};
+ghost use Rattle.elements.specs.Answers.{ofHanded};
+ghost use Rattle.queue.specs.Pairs.{ofJoined, ofSplit};
 ghost use Rattle.rules.specs.Outcome.{shut};
 ghost use Rattle.replies.specs.InC.{said, answerInC, makingInC, pairingInC};
 ghost use Rattle.replies.specs.Records.{recIn};

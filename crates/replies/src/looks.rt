@@ -1,15 +1,13 @@
 // The answers of the calls that only look. Refused, the other fields are 0 or false.
-use comparisons::Ordering;
-use comparisons::Truth;
-use images::Written;
-use queue::Found;
-use search::Point;
-use search::Searched;
+use elements::Found;
+use queue::Ordering;
+use queue::Point;
+use queue::Searched;
+use queue::Truth;
+use queue::Written;
 ghost use mathlib.Core.Path.{_≡_};
-ghost use Rattle.queue.specs.Answers.{ofFound};
-ghost use Rattle.comparisons.specs.Answers.{ofTruth, ofOrdering};
-ghost use Rattle.search.specs.Answers.{ofSearched, ofPoint};
-ghost use Rattle.images.specs.Answers.{ofWritten};
+ghost use Rattle.elements.specs.Answers.{ofFound};
+ghost use Rattle.queue.specs.Looks.{ofTruth, ofOrdering, ofSearched, ofPoint, ofWritten};
 ghost use Rattle.replies.specs.InC.{seenInC, truthInC, orderInC, spotInC, countInC};
 ghost use Rattle.replies.specs.Replies.{ofSeenReply, ofTruthReply, ofOrderReply, ofSearchReply, ofCountReply};
 

@@ -1,16 +1,15 @@
 // The records as they cross: the numbers of their fields, one behind the other, in the caller's memory. A record that is changed there goes back and forth
 // field by field, so a load never waits for two stores.
-use drains::Drain;
 use places::WrappedIndex;
 use queue::Deque;
-use runs::Span;
-use walks::Walk;
+use queue::Drain;
+use queue::Span;
+use queue::Walk;
 ghost use mathlib.Core.Path.{_≡_};
 ghost use Rattle.queue.specs.Answers.{recOf};
-ghost use Rattle.drains.specs.Answers.{drainOf};
-ghost use Rattle.runs.specs.Answers.{spanOf};
+ghost use Rattle.queue.specs.Drains.{drainOf};
+ghost use Rattle.queue.specs.Looks.{spanOf, walkOf};
 ghost use Rattle.rules.specs.Runs.{twoRuns};
-ghost use Rattle.walks.specs.Answers.{walkOf};
 ghost use Rattle.replies.specs.Records.{recIn, drainIn, walkIn, runsIn};
 
 // The record of a queue.

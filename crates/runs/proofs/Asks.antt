@@ -13,9 +13,9 @@ use Rattle.rules.specs.Looks.{refuses, looked, sees}
 use Rattle.rules.specs.Records.{Rec}
 use Rattle.rules.specs.Refusals.{onQueue}
 use Rattle.rules.specs.Tests.{unless}
-use Rattle.queue.specs.declared.Refusal.{Refusal}
-use Rattle.queue.specs.declared.Checked.{Checked}
-use Rattle.queue.specs.declared.Checked.the-variants.{Refused as Failed}
+use Rattle.queue.specs.declared.refusals.Refusal.{Refusal}
+use Rattle.queue.specs.declared.refusals.Checked.{Checked}
+use Rattle.queue.specs.declared.refusals.Checked.the-variants.{Refused as Failed}
 
 module _ {A : Type 0} (n : ℕ) (a : A) where
   pub asks-refused : (x : Refusal) → n ≡ numberOf x → refuses (numberOf x) ≡ looked n a

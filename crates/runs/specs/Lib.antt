@@ -1,3 +1,2 @@
--- The answers as the public contracts read them, and where a run that is handed back stands.
-pub mod Answers
+-- Where a run that is handed back stands.
 pub mod Parts

@@ -1,25 +1,14 @@
 // The two runs of a range of positions: their places, and each run as that part of the lent slots itself.
 use queue::Checked;
 use queue::Deque;
-use queue::Refusal;
+use queue::Ranges;
+use queue::Span;
 ghost use denote.Ref.{ptr};
 ghost use mathlib.Core.Path.{_≡_};
 ghost use Rattle.rules.specs.Runs.{lookRuns, runsOr, frontRun, backRun};
 ghost use Rattle.queue.specs.Answers.{recOf};
-ghost use Rattle.runs.specs.Answers.{ofRanges, spanOf};
+ghost use Rattle.queue.specs.Looks.{ofRanges, spanOf};
 ghost use Rattle.runs.specs.Parts.{partStart};
-
-// A part of the slots: from `start` to before `end`.
-pub struct Span {
-    pub start: usize,
-    pub end: usize,
-}
-
-// The answer of the call for the two ranges.
-pub enum Ranges {
-    Runs { front: Span, back: Span },
-    Refused(Refusal),
-}
 
 // The places of the two runs of positions start..end.
 pub fn slice_ranges(slots: &[u32], q: Deque, start: usize, end: usize) -> Ranges
@@ -29,11 +18,8 @@ pub fn slice_ranges(slots: &[u32], q: Deque, start: usize, end: usize) -> Ranges
     if let Checked::Refused(refusal) = queue::check(cap, q) {
         return Ranges::Refused(refusal);
     }
-    if start > end {
-        return Ranges::Refused(Refusal::Position);
-    }
-    if end > q.len {
-        return Ranges::Refused(Refusal::Position);
+    if let Checked::Refused(refusal) = queue::check_range(q.len, start, end) {
+        return Ranges::Refused(refusal);
     }
     if start == end {
         return Ranges::Runs {

@@ -21,9 +21,9 @@ use Rattle.rules.specs.Search.{foundAt, spotOf, spotIn, placeIn, pointOf, place
 use Rattle.rules.specs.Tests.{whether}
 use Rattle.runs.proofs.Asks.{asks-seen}
 use Rattle.search.specs.Handed.{begins, handedRun, countedFrom}
-use Rattle.queue.specs.declared.Refusal.{Refusal}
-use Rattle.queue.specs.declared.Checked.{Checked}
-use Rattle.queue.specs.declared.Checked.the-variants.{Refused as Failed}
+use Rattle.queue.specs.declared.refusals.Refusal.{Refusal}
+use Rattle.queue.specs.declared.refusals.Checked.{Checked}
+use Rattle.queue.specs.declared.refusals.Checked.the-variants.{Refused as Failed}
 
 -- a choice of both arguments is a choice of the result
 choose : {A B C : Type 0} (g : A → B → C) (t : Bool) (a a′ : A) (b b′ : B) → g (whether t a a′) (whether t b b′) ≡ whether t (g a b) (g a′ b′)

@@ -1,4 +1,3 @@
--- The answers as the public contracts read them; the run that the halving is handed; sorted and parted lists.
-pub mod Answers
+-- The run that the halving is handed; sorted and parted lists.
 pub mod Handed
 pub mod Sorted

@@ -1,6 +1,6 @@
 // Search by halving of a list in two runs, a front run and a back run behind it.
-use super::Searched;
 use conditions::Test;
+use queue::Searched;
 ghost use lib.ListN.{length};
 ghost use mathlib.Core.Path.{_≡_};
 ghost use Prim.Native.Nat.{_≤_};
@@ -8,7 +8,7 @@ ghost use Rattle.rules.specs.Conditions.{meets};
 ghost use Rattle.rules.specs.Looks.{sees};
 ghost use Rattle.rules.specs.Search.{placeIn, spotOf, pointOf};
 ghost use Rattle.conditions.specs.Tests.{testOf};
-ghost use Rattle.search.specs.Answers.{ofSearched};
+ghost use Rattle.queue.specs.Looks.{ofSearched};
 ghost use Rattle.search.specs.Handed.{begins, handedRun, countedFrom};
 
 // Whether the run has a first element that meets the test.

@@ -6,25 +6,13 @@ pub use in_runs::point_runs;
 pub use in_runs::search_runs;
 use queue::Checked;
 use queue::Deque;
-use queue::Refusal;
+use queue::Point;
+use queue::Searched;
 ghost use mathlib.Core.Path.{_≡_};
 ghost use Rattle.rules.specs.Search.{searchFor, partitionBy};
 ghost use Rattle.conditions.specs.Tests.{testOf};
 ghost use Rattle.queue.specs.Answers.{recOf};
-ghost use Rattle.search.specs.Answers.{ofSearched, ofPoint};
-
-// The answer of a search: the position where x stands, or the place to insert it.
-pub enum Searched {
-    Found(usize),
-    Place(usize),
-    Refused(Refusal),
-}
-
-// The answer of `partition_point`.
-pub enum Point {
-    At(usize),
-    Refused(Refusal),
-}
+ghost use Rattle.queue.specs.Looks.{ofSearched, ofPoint};
 
 // Where x stands in the queue, or where to insert it.
 pub fn binary_search(slots: &[u32], q: Deque, x: u32) -> Searched

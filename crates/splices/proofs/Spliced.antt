@@ -7,36 +7,41 @@ use native.Mathlib.Omega.{arith}
 use lib.Dec.{eqb}
 use lib.ListN.{length, take, drop, length-append, length-take, length-drop}
 use Rattle.holes.proofs.Closes.{lay-over}
-use Rattle.drains.proofs.Ranges.{range-in}
+use Rattle.queue.proofs.Ranges.{range-go, range-stop}
+use Rattle.queue.proofs.Numbers.{some-number}
 use Rattle.queue.specs.Answers.{numberOf}
 use Rattle.rules.proofs.Made.{map-made}
-use Rattle.rules.proofs.Refusals.{no-room, some-room}
+use Rattle.rules.proofs.Refusals.{no-room, range-ok, some-room}
 use Rattle.rules.proofs.Slots.{length-listOf}
 use Rattle.rules.proofs.Told.{own-refused, accepts}
 use Rattle.rules.specs.Outcome.{shut, told, doRule}
 use Rattle.rules.specs.Places.{place}
 use Rattle.rules.specs.Records.{Rec, stepped, held}
-use Rattle.rules.specs.Refusals.{onChange, inRange, room}
+use Rattle.rules.specs.Refusals.{onChange, inRange}
 use Rattle.rules.specs.Rule.{numbers}
 use Rattle.rules.specs.Slots.{lay, listOf}
 use Rattle.rules.specs.Splice.{splice}
 use Rattle.rules.specs.Tests.{whether}
 use Rattle.splices.specs.Rooms.{SpliceMade, splicedHead, splicedMoved}
-use Rattle.queue.specs.declared.Refusal.the-variants.{Position, Room}
+use Rattle.queue.specs.declared.refusals.Refusal.{Refusal}
+use Rattle.queue.specs.declared.refusals.Refusal.the-variants.{Room}
 
 module _ (b : List ℕ) (r : Rec) (s e : ℕ) (vs : List ℕ) (first : onChange (length b) r 0 ≡ 0) where
   -- no range of positions
-  pub splice-range : inRange (r .len) s e (room (length b) (s + length vs + (r .len - e))) ≡ 3
-      → (record { refused = numberOf Position; moved = 0; held = shut r; handed = none }, b) ≡ told (doRule b r (splice s e vs))
-  unfolding splice numberOf
-  splice-range z = own-refused b r (splice s e vs) 3 (λ z. omega arith) first z
+  pub splice-range : (x : Refusal) → inRange (r .len) s e 0 ≡ numberOf x
+      → (record { refused = numberOf x; moved = 0; held = shut r; handed = none }, b) ≡ told (doRule b r (splice s e vs))
+  unfolding splice
+  splice-range x z =
+      own-refused b r (splice s e vs) (numberOf x) (some-number x) first
+      (range-stop (r .len) s e _ (numberOf x) (some-number x) z)
 
-  module _ (from : s ≤ e) (upto : e ≤ r .len) where
+  module _ (ranged : inRange (r .len) s e 0 ≡ 0) where
     -- more elements than slots
     pub splice-full : length b < s + length vs + (r .len - e)
         → (record { refused = numberOf Room; moved = 0; held = shut r; handed = none }, b) ≡ told (doRule b r (splice s e vs))
     unfolding splice numberOf
-    splice-full lt = own-refused b r (splice s e vs) 4 (λ z. omega arith) first (range-in (r .len) s e _ from upto ∙ no-room _ _ lt)
+    splice-full lt =
+        own-refused b r (splice s e vs) 4 (λ z. omega arith) first (range-go (r .len) s e _ ranged ∙ no-room _ _ lt)
 
     -- the room is made, and the values are laid into it
     pub spliced : (b′ b″ : List ℕ) (h′ h″ m : ℕ) (r′ : Rec) → s + length vs + (r .len - e) ≤ length b
@@ -46,6 +51,7 @@ module _ (b : List ℕ) (r : Rec) (s e : ℕ) (vs : List ℕ) (first : onChange 
     unfolding splice splicedHead splicedMoved held
     spliced b′ b″ h′ h″ m r′ fits c laid over made =
         let n = r .len in
+        let k = range-ok n s e 0 ranged in
         let d = e - s in
         let whole : s + d + (n - e) ≡ n = omega arith in
         let to-end : s + d ≡ e = omega arith in
@@ -55,6 +61,6 @@ module _ (b : List ℕ) (r : Rec) (s e : ℕ) (vs : List ℕ) (first : onChange 
         let same-list : take s l ++ (map (numbers .made) vs ++ drop e l) ≡ new = ap (λ (us : List ℕ). take s l ++ (us ++ drop e l)) (map-made vs) in
         let at-slots : b″ ≡ lay b h′ new =
         laid ∙ ap (λ (k : ℕ). lay b′ (place k h′ s) vs) (c .room .long) ∙ (rw (whole, to-end) at (c .room .laid vs refl)) in
-        accepts b r (splice s e vs) first (range-in n s e _ from upto ∙ some-room _ _ fits) m h″ (s + length vs + (n - e)) r′ none b″ made
+        accepts b r (splice s e vs) first (range-go n s e _ ranged ∙ some-room _ _ fits) m h″ (s + length vs + (n - e)) r′ none b″ made
         (over ∙ ap (whether (eqb (s + length vs + (n - e)) 0) 0) (c .head)) refl (c .moved) refl
         (at-slots ∙ sym (lay-over b h′ _ new many) ∙ ap (λ (g : ℕ). lay b g new) (sym over) ∙ ap (lay b h″) (sym same-list))

@@ -1,5 +1,5 @@
 // Splice: elements of a lent slice replace a range of a queue.
-use holes::Joined;
+use holes::Settled;
 use places::WrappedIndex;
 use queue::Change;
 use queue::Checked;
@@ -24,7 +24,7 @@ fn make_room(
     drained: usize,
     new: usize,
     tail: usize,
-) -> Joined
+) -> Settled
     requires { ⌜ (head .0 ≤ length (now slots) - 1) × (start + drained + tail ≤ length (now slots)) × (start + new + tail ≤ length (now slots)) × (length (now slots) ≤ mostSlots) ⌝ }
     ensures { λ r. ⌜ SpliceMade (now (slots .entry)) (now (slots .exit)) (head .0) start drained new tail (r .head .0) (r .moved) ⌝ }
 {
@@ -35,7 +35,7 @@ fn make_room(
         //     H
         // [ . h h n n n n t t t . . . . ]
         holes::move_elements(slots, head, start + drained, start + new, tail);
-        return Joined { head, moved: tail };
+        return Settled { head, moved: tail };
     }
     holes::close_hole(slots, head, start, new, drained - new, tail)
 }
@@ -60,12 +60,9 @@ pub fn splice(slots: &mut [u32], q: Deque, start: usize, end: usize, values: &[u
     if let Checked::Refused(refusal) = queue::check_change(cap, q) {
         return queue::refused(refusal, q);
     }
-    if start > end {
-        return queue::refused(Refusal::Position, q);
-    }
     let len = q.len;
-    if end > len {
-        return queue::refused(Refusal::Position, q);
+    if let Checked::Refused(refusal) = queue::check_range(len, start, end) {
+        return queue::refused(refusal, q);
     }
     let tail = len - end;
     let new = values.len();
@@ -73,12 +70,12 @@ pub fn splice(slots: &mut [u32], q: Deque, start: usize, end: usize, values: &[u
         return queue::refused(Refusal::Room, q);
     }
     let head = q.head;
-    let joined = make_room(slots, head, start, end - start, new, tail);
-    let first = joined.head;
+    let settled = make_room(slots, head, start, end - start, new, tail);
+    let first = settled.head;
     fill(slots, first, start, values);
     let left = start + new + tail;
     Change::Done {
-        queue: queue::stepped(q, holes::head_over(first, left), left),
-        moved: joined.moved,
+        queue: queue::stepped(q, queue::head_over(first, left), left),
+        moved: settled.moved,
     }
 }

@@ -22,7 +22,7 @@ use Rattle.rules.specs.Records.{Rec, held, stepped}
 use Rattle.rules.specs.Refusals.{onChange}
 use Rattle.rules.specs.Slots.{listOf}
 use Rattle.rules.specs.Tests.{ask, whether}
-use Rattle.queue.specs.declared.Refusal.the-variants.{Position}
+use Rattle.queue.specs.declared.refusals.Refusal.the-variants.{Position}
 
 module _ (b : List ℕ) (r : Rec) (first : onChange (length b) r 0 ≡ 0) where
   -- ---- two positions

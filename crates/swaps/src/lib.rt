@@ -1,18 +1,19 @@
 // The calls that exchange elements, and those that fill a gap from an end.
+use elements::Handed;
 use ends::pop_back;
 use ends::pop_front;
 use places::WrappedIndex;
 use queue::Change;
 use queue::Checked;
 use queue::Deque;
-use queue::Handed;
 use queue::Refusal;
 ghost use mathlib.Core.Path.{_≡_};
 ghost use Prim.Native.Nat.{_<_};
 ghost use lib.ListN.{length, getD, set};
 ghost use Rattle.rules.specs.Ends.{exchange, swapRemoveFront, swapRemoveBack};
 ghost use Rattle.rules.specs.Outcome.{told, doRule};
-ghost use Rattle.queue.specs.Answers.{recOf, ofChange, ofHanded};
+ghost use Rattle.queue.specs.Answers.{recOf, ofChange};
+ghost use Rattle.elements.specs.Answers.{ofHanded};
 
 // Hands over what stands at `at`, and stores there what stands at `from`, which keeps its value.
 fn fill(slots: &mut [u32], at: WrappedIndex, from: WrappedIndex) -> u32

@@ -1,5 +1,7 @@
 // The calls of a trial script that can change a queue: the words of a line become a call of `turns`, and what it leaves goes out. In each function the last arm is the last call of its group.
-use answers::Given;
+use answers::StepAnswer;
+use elements::Given;
+use queue::State;
 use trial_state::Done;
 use trial_state::Queues;
 use trial_state::operands::Operands;
@@ -15,14 +17,12 @@ use trial_text::rest;
 use turns::Call;
 use turns::DrainCall;
 use turns::Edit;
-use turns::Holding;
 use turns::Join;
 use turns::PairCall;
 use turns::QueueCall;
 use turns::QueueChange;
 use turns::Removal;
 use turns::Side;
-use turns::Turned;
 use vec_deque::Test;
 
 // The calls that hand nothing over.
@@ -126,11 +126,11 @@ fn turned(
     number: usize,
     words: &[usize],
     a_slots: &mut [u32],
-    a: Holding,
+    a: State,
     b_slots: &mut [u32],
-    b: Holding,
+    b: State,
     side: Side,
-) -> Turned {
+) -> StepAnswer {
     let mut values = [0u32; 2000];
     let mut bytes = [0u8; 2000];
     let list = list_of(number, words);
@@ -169,7 +169,7 @@ fn say_none(number: usize, refused: usize, moved: usize) -> Said {
 }
 
 // What a call says that can change a queue.
-fn say_turned(number: usize, turned: Turned) -> Said {
+fn say_turned(number: usize, turned: StepAnswer) -> Said {
     let handed = turned.handed;
     match handed {
         Given::Number(element) => say_element(turned.moved, element),
@@ -178,7 +178,7 @@ fn say_turned(number: usize, turned: Turned) -> Said {
 }
 
 // The queues with the records that a call left.
-fn with_turned(queues: Queues, turned: Turned) -> Queues {
+fn with_turned(queues: Queues, turned: StepAnswer) -> Queues {
     let first = turned.a;
     let second = turned.b;
     Queues {

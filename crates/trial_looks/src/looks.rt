@@ -1,10 +1,10 @@
 // The calls that only look. While a drain is open they are passed over.
 use crate::replies;
+use queue::State;
 use trial_state::operands::Operands;
 use trial_state::operands::first_two;
 use trial_state::said::Said;
 use trial_state::said::say_done;
-use turns::Holding;
 use vec_deque::Deque;
 use vec_deque::Found;
 
@@ -35,10 +35,10 @@ fn look_at(number: usize, slots: &[u32], queue: Deque, operands: Operands) -> Sa
 }
 
 // Looks at a queue.
-pub fn look(number: usize, slots: &[u32], holding: Holding, words: &[usize]) -> Said {
+pub fn look(number: usize, slots: &[u32], holding: State, words: &[usize]) -> Said {
     match holding {
-        Holding::Shut(queue) => look_at(number, slots, queue, first_two(words)),
-        Holding::Open(_) => say_done(0),
+        State::Shut(queue) => look_at(number, slots, queue, first_two(words)),
+        State::Draining(_) => say_done(0),
     }
 }
 
@@ -62,11 +62,11 @@ fn compare_with(
     slots: &[u32],
     queue: Deque,
     other_slots: &[u32],
-    other: Holding,
+    other: State,
 ) -> Said {
     match other {
-        Holding::Shut(second) => comparing(number, slots, queue, other_slots, second),
-        Holding::Open(_) => say_done(0),
+        State::Shut(second) => comparing(number, slots, queue, other_slots, second),
+        State::Draining(_) => say_done(0),
     }
 }
 
@@ -74,12 +74,12 @@ fn compare_with(
 pub fn compare(
     number: usize,
     slots: &[u32],
-    holding: Holding,
+    holding: State,
     other_slots: &[u32],
-    other: Holding,
+    other: State,
 ) -> Said {
     match holding {
-        Holding::Shut(queue) => compare_with(number, slots, queue, other_slots, other),
-        Holding::Open(_) => say_done(0),
+        State::Shut(queue) => compare_with(number, slots, queue, other_slots, other),
+        State::Draining(_) => say_done(0),
     }
 }

@@ -1,10 +1,10 @@
 // The calls that set a state.
+use queue::State;
 use trial_state::Kept;
 use trial_state::Queues;
 use trial_state::quiet;
 use trial_state::record;
 use trial_text::word;
-use turns::Holding;
 use vec_deque::Drain;
 use vec_deque::Walk;
 use vec_deque::WrappedIndex;
@@ -33,10 +33,10 @@ fn walk_of(words: &[usize]) -> Walk {
 // The queue with its record, its drain or its walk set; 94 forgets the drain and every element.
 pub fn set(number: usize, kept: Kept, words: &[usize]) -> Kept {
     match number {
-        90 => kept.with_holding(Holding::Shut(record(word(words, 0), word(words, 1)))),
-        91 => kept.with_holding(Holding::Open(drain_of(words))),
+        90 => kept.with_holding(State::Shut(record(word(words, 0), word(words, 1)))),
+        91 => kept.with_holding(State::Draining(drain_of(words))),
         92 => kept.with_walk(walk_of(words)),
-        _ => kept.with_holding(Holding::Shut(record(0, 0))),
+        _ => kept.with_holding(State::Shut(record(0, 0))),
     }
 }
 

@@ -1,11 +1,11 @@
 // The walks.
 use crate::replies;
+use queue::State;
 use trial_state::Kept;
 use trial_state::Walking;
 use trial_state::said::Said;
 use trial_state::said::say_done;
 use trial_state::said::say_nothing;
-use turns::Holding;
 use vec_deque::Walk;
 
 // After a call that changes no slot: what is kept of its queue, and what it says.
@@ -18,8 +18,8 @@ pub struct Asked {
 fn begin(slots: &[u32], kept: Kept) -> Asked {
     let holding = kept.holding;
     match holding {
-        Holding::Shut(queue) => replies::begun(kept, vec_deque::begin_walk(slots, queue)),
-        Holding::Open(_) => Asked {
+        State::Shut(queue) => replies::begun(kept, vec_deque::begin_walk(slots, queue)),
+        State::Draining(_) => Asked {
             kept,
             said: say_done(0),
         },

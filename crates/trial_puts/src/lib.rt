@@ -1,5 +1,6 @@
 // A line of output: what the call gave, and the two queues.
 use answers::number_of;
+use queue::State;
 use trial_state::Kept;
 use trial_state::Queues;
 use trial_state::Walking;
@@ -15,7 +16,6 @@ use trial_text::put_spaced;
 use trial_text::put_text;
 use trial_text::put_values;
 use trial_text::word;
-use turns::Holding;
 use vec_deque::Deque;
 use vec_deque::Drain;
 use vec_deque::Written;
@@ -148,14 +148,14 @@ fn put_list_of(
 pub fn put_list(
     number: usize,
     slots: &[u32],
-    holding: Holding,
+    holding: State,
     words: &[usize],
     out: &mut [u8],
     at: usize,
 ) -> usize {
     match holding {
-        Holding::Shut(queue) => put_list_of(number, slots, queue, words, out, at),
-        Holding::Open(_) => put_said(out, at, said::say_done(0)),
+        State::Shut(queue) => put_list_of(number, slots, queue, words, out, at),
+        State::Draining(_) => put_said(out, at, said::say_done(0)),
     }
 }
 
@@ -176,10 +176,10 @@ fn put_drain(out: &mut [u8], at: usize, drain: Drain) -> usize {
 }
 
 // Puts the record, or the open drain in its place.
-fn put_state(out: &mut [u8], at: usize, holding: Holding) -> usize {
+fn put_state(out: &mut [u8], at: usize, holding: State) -> usize {
     match holding {
-        Holding::Open(open) => put_drain(out, at, open),
-        Holding::Shut(queue) => put_record(out, at, queue),
+        State::Draining(open) => put_drain(out, at, open),
+        State::Shut(queue) => put_record(out, at, queue),
     }
 }
 

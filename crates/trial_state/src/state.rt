@@ -1,6 +1,6 @@
 // What the program keeps of each queue beside its slots, and what a call leaves.
 use crate::said::Said;
-use turns::Holding;
+use queue::State;
 use turns::Side;
 use vec_deque::Deque;
 use vec_deque::Walk;
@@ -14,7 +14,7 @@ pub enum Walking {
 
 // A queue's record or that of its open drain, and its walk.
 pub struct Kept {
-    pub holding: Holding,
+    pub holding: State,
     pub walk: Walking,
 }
 
@@ -29,14 +29,14 @@ pub fn record(head: usize, len: usize) -> Deque {
 // A queue with this record, and no walk.
 pub fn quiet(queue: Deque) -> Kept {
     Kept {
-        holding: Holding::Shut(queue),
+        holding: State::Shut(queue),
         walk: Walking::Still,
     }
 }
 
 impl Kept {
     // The same walk, beside another record.
-    pub fn with_holding(self, holding: Holding) -> Kept {
+    pub fn with_holding(self, holding: State) -> Kept {
         let walk = self.walk;
         Kept { holding, walk }
     }
@@ -54,8 +54,8 @@ impl Kept {
     pub fn is_open(self) -> bool {
         let holding = self.holding;
         match holding {
-            Holding::Open(_) => true,
-            Holding::Shut(_) => false,
+            State::Draining(_) => true,
+            State::Shut(_) => false,
         }
     }
 }

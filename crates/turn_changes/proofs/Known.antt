@@ -2,11 +2,13 @@
 use mathlib.Core.List.{List}
 use mathlib.Core.Path.{_≡_, sym, _∙_, ap}
 use Prim.Native.Nat.{ℕ}
+use Rattle.answers.specs.Answers.{madeAnswer}
 use Rattle.rules.specs.Calls.{rule}
 use Rattle.rules.specs.Drains.{Drain}
-use Rattle.rules.specs.Outcome.{Answer, told, doRule}
+use Rattle.rules.specs.Makes.{Making, MadeIn, toldMaking}
+use Rattle.rules.specs.Outcome.{Answer, Held, told, doRule}
 use Rattle.rules.specs.Records.{Rec}
-use Rattle.rules.specs.Sequences.{doOnQueue, doOnDrain}
+use Rattle.rules.specs.Sequences.{making, doOnQueue, doOnDrain}
 use Rattle.turn_calls.specs.Calls.{editOf, joinOf, removalOf, changeOf, drainCallOf}
 use Rattle.turn_calls.specs.declared.Edit.{Edit}
 use Rattle.turn_calls.specs.declared.Join.{Join}
@@ -42,3 +44,10 @@ module _ (b b′ : List ℕ) (p a : Answer) (same : p ≡ a) where
       → (p, b′) ≡ told (doOnDrain b d (drainCallOf x))
   drain-known d x k e f =
       (λ i. (same i, b′)) ∙ known (λ (y : DrainCall). told (doOnDrain b d (drainCallOf y))) x k (a, b′) e f
+
+-- a call that makes a record, where k is its own answer; b are the slots before, b′ those after
+pub makes : (b b′ : List ℕ) (p : Answer) (h : Held) (m : MadeIn) (k : Making) → p ≡ madeAnswer h k
+    → (k, b′) ≡ toldMaking m
+    → (p, b′) ≡ told (making b h m)
+unfolding making
+makes b b′ p h m k same e = (λ i. (same i, b′)) ∙ ap (λ (x : Making × List ℕ). (madeAnswer h (x .0), x .1)) e

@@ -9,13 +9,7 @@ use Rattle.rules.specs.Records.{Rec}
 use Rattle.turn_calls.specs.Calls.{askOf, askBothOf}
 use Rattle.turn_calls.specs.declared.Ask.{Ask}
 use Rattle.turn_calls.specs.declared.AskBoth.{AskBoth}
-use Rattle.turn_looks.specs.Sights.{lookTold}
-
--- an arm of a match on the answer, which o reads and f tells
-pub arm : {A B : Type 0} (f : B → Sight) (o : A → Look B) (p : ℕ × Option Sight) (x k : A) → x ≡ k
-    → p ≡ lookTold (seenAs f (o k))
-    → p ≡ lookTold (seenAs f (o x))
-arm f o p x k e t = t ∙ ap (λ y. lookTold (seenAs f (o y))) (sym e)
+use Rattle.answers.specs.Sights.{lookTold}
 
 -- p tells what the answer l saw, and l is what the rules give
 module _ {B : Type 0} (f : B → Sight) (p : ℕ × Option Sight) (l m : Look B) (t : p ≡ lookTold (seenAs f l)) (e : l ≡ m) where

@@ -11,17 +11,17 @@ use Rattle.turn_calls.specs.declared.PairCall.{PairCall}
 use Rattle.turn_calls.specs.declared.QueueCall.{QueueCall}
 use Rattle.turn_calls.specs.declared.Side.{Side}
 use Rattle.turn_changes.proofs.Known.{known}
-use Rattle.turn_changes.specs.Answers.{heldOf}
-use Rattle.turn_changes.specs.declared.answering.Holding.{Holding}
+use Rattle.queue.specs.Drains.{heldOf}
+use Rattle.queue.specs.declared.records.State.{State}
 use Rattle.turns.specs.Answers.{toldFirst}
 
 -- what is held of the queues
-module _ (b b′ : List ℕ) (c : rules.Call) (s : Seen × List ℕ × List ℕ) (x k : Holding) (e : x ≡ k) where
+module _ (b b′ : List ℕ) (c : rules.Call) (s : Seen × List ℕ × List ℕ) (x k : State) (e : x ≡ k) where
   pub first-known : (h′ : Held) → s ≡ toldFirst b (heldOf k) b′ h′ c → s ≡ toldFirst b (heldOf x) b′ h′ c
-  first-known h′ f = known (λ (y : Holding). toldFirst b (heldOf y) b′ h′ c) x k s e f
+  first-known h′ f = known (λ (y : State). toldFirst b (heldOf y) b′ h′ c) x k s e f
 
   pub second-known : (h : Held) → s ≡ toldFirst b h b′ (heldOf k) c → s ≡ toldFirst b h b′ (heldOf x) c
-  second-known h f = known (λ (y : Holding). toldFirst b h b′ (heldOf y) c) x k s e f
+  second-known h f = known (λ (y : State). toldFirst b h b′ (heldOf y) c) x k s e f
 
 -- the call
 module _ (b : List ℕ) (h : Held) (b′ : List ℕ) (h′ : Held) (s : Seen × List ℕ × List ℕ) where

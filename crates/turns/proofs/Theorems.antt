@@ -6,13 +6,13 @@ use lib.ListN.{take}
 use Rattle.rules.proofs.Theorems.{conserved}
 use Rattle.rules.specs.Sequences.{Pair, CallStep, Seen, Turn, pairOf, queueOf, step, toldStep, start, run, timesEntered, timesLeft}
 use Rattle.rules.specs.Standing.{standingSlots}
-use Rattle.turns.specs.Answers.{ofTurned}
+use Rattle.answers.specs.Answers.{ofStepAnswer}
 use Rattle.turn_calls.specs.Calls.{turnOf}
 use Rattle.turns.specs.Played.{Played, over, played, leftBy}
-use Rattle.turns.specs.declared.answering.Turned.{Turned}
+use Rattle.answers.specs.declared.pairs.StepAnswer.{StepAnswer}
 
 -- what the contract tells of the queues
-queues-left : (c : CallStep) (r : Turned) (x y : List ℕ) → (ofTurned r, x, y) ≡ toldStep c → leftBy r x y ≡ c .queues
+queues-left : (c : CallStep) (r : StepAnswer) (x y : List ℕ) → (ofStepAnswer r, x, y) ≡ toldStep c → leftBy r x y ≡ c .queues
 queues-left c r x y e = ap (λ (t : Seen × List ℕ × List ℕ). pairOf (queueOf (t .1) (t .0 .a)) (queueOf (t .2) (t .0 .b))) e
 
 -- A sequence of calls of `turn`, each given what the last left, is such a sequence of the rules.

@@ -3,11 +3,6 @@ use mathlib.Core.List.{List, []}
 use mathlib.Core.Option.{Option}
 use mathlib.Core.Path.{_≡_, sym, _∙_, ap}
 use Prim.Native.Nat.{ℕ}
-use Rattle.joins.specs.Answers.{ofJoined, ofSplit}
-use Rattle.queue.specs.Answers.{numberOf}
-use Rattle.queue.specs.declared.Refusal.{Refusal}
-use Rattle.joins.specs.declared.Joined.{Joined}
-use Rattle.joins.specs.declared.Split.{Split}
 use Rattle.rules.specs.Asks.{Ask, AskBoth, Sight, answered, answeredBoth}
 use Rattle.rules.specs.Drains.{Drain}
 use Rattle.rules.specs.Looks.{Look}
@@ -15,20 +10,9 @@ use Rattle.rules.specs.Outcome.{Answer, Held, Outcome, shut, drawn, told}
 use Rattle.rules.specs.Pairs.{Pairing, Paired, toldPairing, doAppend, doSplit}
 use Rattle.rules.specs.Records.{Rec}
 use Rattle.rules.specs.Sequences.{QueueChange, changing, asking, DrainCall, appending, splitting, comparing, Call, ofQueue, ofDrain, ofBoth, Taken, passedOver, ifShut, ifDrawn, takes, Seen, Queue, sideA, sideB, queueOf, pairOf, stands, stillStep, lookStep, oneStep, bothStep, doOnQueue, doOnDrain, queueStep, pairStep, takenStep, firstStep, facing, step, toldStep}
-use Rattle.turn_looks.specs.Sights.{lookTold}
-use Rattle.turns.specs.Answers.{oneSeen, bothHeld, bothSeen, noneSeen, lookSeen, seenRound, toldFirst}
-
--- a refused answer has its refusal's number
-pub both-number : (n : ℕ) (x : Refusal) (m : ℕ) (h h′ : Held) → n ≡ numberOf x
-    → bothHeld n m h h′ ≡ bothHeld (numberOf x) m h h′
-both-number n x m h h′ e = ap (λ (k : ℕ). bothHeld k m h h′) e
-
--- an answer of `append`, and of `split_off`
-pub joined-known : (h : Held) (x k : Joined) → x ≡ k → bothSeen h (ofJoined k) ≡ bothSeen h (ofJoined x)
-joined-known h x k e = ap (λ (y : Joined). bothSeen h (ofJoined y)) (sym e)
-
-pub split-known : (h : Held) (x k : Split) → x ≡ k → bothSeen h (ofSplit k) ≡ bothSeen h (ofSplit x)
-split-known h x k e = ap (λ (y : Split). bothSeen h (ofSplit y)) (sym e)
+use Rattle.answers.specs.Answers.{bothSeen}
+use Rattle.answers.specs.Sights.{lookTold}
+use Rattle.turns.specs.Answers.{oneSeen, noneSeen, lookSeen, seenRound, toldFirst}
 
 -- ---- the steps, by their kind: p is the answer in the one form, x and x′ are the slots after
 

@@ -1,26 +1,11 @@
--- What a call on either of two queues answers, in the terms of the rules. Assumes nothing.
+-- What the caller sees of a call on either of two queues. Assumes nothing.
 use mathlib.Core.List.{List}
 use mathlib.Core.Option.{Option, none}
 use Prim.Native.Nat.{ℕ}
-use Rattle.answers.specs.Replies.{ofGiven}
+use Rattle.answers.specs.Answers.{bothHeld}
 use Rattle.rules.specs.Asks.{Sight}
-use Rattle.rules.specs.Outcome.{Answer, Held, shut}
-use Rattle.rules.specs.Pairs.{Pairing}
-use Rattle.rules.specs.Sequences.{Call, Seen, Turn, firstStep, madeOr, pairOf, queueOf, step, toldStep}
-use Rattle.turn_changes.specs.Answers.{heldOf}
-use Rattle.turn_looks.specs.Sights.{ofSight}
-use Rattle.turns.specs.declared.answering.Turned.{Turned}
-
--- refusal number, moved count, what was handed over, what was seen, and both records
-abbrev pub ofTurned : Turned → Seen
-ofTurned p = record {
-  refused = p .refused;
-  moved = p .moved;
-  handed = ofGiven (p .handed);
-  sight = ofSight (p .sight);
-  a = heldOf (p .a);
-  b = heldOf (p .b);
-}
+use Rattle.rules.specs.Outcome.{Answer, Held}
+use Rattle.rules.specs.Sequences.{Call, Seen, Turn, firstStep, pairOf, queueOf, step, toldStep}
 
 -- of a call that can change the first queue, where h′ is held of the second
 abbrev pub oneSeen : Answer → Held → Seen
@@ -32,14 +17,6 @@ oneSeen a h′ = record {
   a = a .held;
   b = h′;
 }
-
--- refusal number and moved count, where h and h′ are held and nothing is handed over or seen
-abbrev pub bothHeld : ℕ → ℕ → Held → Held → Seen
-bothHeld n m h h′ = record { refused = n; moved = m; handed = none; sight = none; a = h; b = h′ }
-
--- of a call that can change both, where h′ was held of the second before
-abbrev pub bothSeen : Held → Pairing → Seen
-bothSeen h′ m = bothHeld (m .refused) (m .moved) (shut (m .rec)) (madeOr h′ (m .other))
 
 -- of a call that is passed over, where h and h′ are held
 abbrev pub noneSeen : Held → Held → Seen

@@ -1,17 +1,17 @@
 // A call on either of two queues, or on both.
-use super::answering::Turned;
-use super::answering::of_joined;
 use super::answering::of_looked;
-use super::answering::of_split;
 use super::answering::passed_over;
 use super::answering::turned_round;
 use super::answering::with_other;
+use answers::StepAnswer;
+use answers::of_joined;
+use answers::of_split;
+use queue::State;
 use turn_calls::Call;
 use turn_calls::DrainCall;
 use turn_calls::PairCall;
 use turn_calls::QueueCall;
 use turn_calls::Side;
-use turn_changes::Holding;
 use turn_changes::change;
 use turn_changes::drain_call;
 use turn_looks::ask;
@@ -20,25 +20,26 @@ ghost use mathlib.Core.List.{List};
 ghost use mathlib.Core.Path.{_≡_};
 ghost use Prim.Native.Nat.{ℕ};
 ghost use Rattle.rules.specs.Sequences.{ofBoth, ofDrain, ofQueue};
+ghost use Rattle.queue.specs.Drains.{heldOf};
+ghost use Rattle.answers.specs.Answers.{ofStepAnswer};
 ghost use Rattle.turn_calls.specs.Calls.{callOf, drainCallOf, pairCallOf, queueCallOf, turnOf};
-ghost use Rattle.turn_changes.specs.Answers.{heldOf};
-ghost use Rattle.turns.specs.Answers.{ofTurned, toldFirst, toldTurn};
+ghost use Rattle.turns.specs.Answers.{toldFirst, toldTurn};
 
 // Makes a call on the first queue; while a drain of it is open it is passed over.
 fn on_queue(
     slots: &mut [u32],
-    first: Holding,
-    second: Holding,
+    first: State,
+    second: State,
     call: QueueCall,
     values: &[u32],
     bytes: &[u8],
-) -> Turned
+) -> StepAnswer
     ensures { λ r. ⌜ ((y : List ℕ)
-        → (ofTurned r, now (slots .exit), y) ≡ toldFirst (now (slots .entry)) (heldOf first) y (heldOf second)
+        → (ofStepAnswer r, now (slots .exit), y) ≡ toldFirst (now (slots .entry)) (heldOf first) y (heldOf second)
         (ofQueue (queueCallOf call (now (values .entry)) (now (bytes .entry)))))
         ⌝ }
 {
-    let Holding::Shut(q) = first else {
+    let State::Shut(q) = first else {
         return passed_over(first, second);
     };
     match call {
@@ -48,13 +49,13 @@ fn on_queue(
 }
 
 // Makes a call of the first queue's drain; where none is open it is passed over.
-fn on_drain(slots: &mut [u32], first: Holding, second: Holding, call: DrainCall) -> Turned
+fn on_drain(slots: &mut [u32], first: State, second: State, call: DrainCall) -> StepAnswer
     ensures { λ r. ⌜ ((y : List ℕ)
-        → (ofTurned r, now (slots .exit), y) ≡ toldFirst (now (slots .entry)) (heldOf first) y (heldOf second)
+        → (ofStepAnswer r, now (slots .exit), y) ≡ toldFirst (now (slots .entry)) (heldOf first) y (heldOf second)
         (ofDrain (drainCallOf call)))
         ⌝ }
 {
-    let Holding::Open(d) = first else {
+    let State::Draining(d) = first else {
         return passed_over(first, second);
     };
     with_other(drain_call(slots, d, call), second)
@@ -63,21 +64,21 @@ fn on_drain(slots: &mut [u32], first: Holding, second: Holding, call: DrainCall)
 // Makes a call on both queues; while a drain of either is open it is passed over.
 fn on_both(
     slots: &mut [u32],
-    first: Holding,
+    first: State,
     other_slots: &mut [u32],
-    second: Holding,
+    second: State,
     call: PairCall,
-) -> Turned
+) -> StepAnswer
     ensures { λ r. ⌜
-        (ofTurned r, now (slots .exit), now («other_slots» .exit))
+        (ofStepAnswer r, now (slots .exit), now («other_slots» .exit))
         ≡ toldFirst (now (slots .entry)) (heldOf first) (now («other_slots» .entry)) (heldOf second)
         (ofBoth (pairCallOf call))
         ⌝ }
 {
-    let Holding::Shut(q) = first else {
+    let State::Shut(q) = first else {
         return passed_over(first, second);
     };
-    let Holding::Shut(other) = second else {
+    let State::Shut(other) = second else {
         return passed_over(first, second);
     };
     match call {
@@ -94,15 +95,15 @@ fn on_both(
 // Makes a call on the first of two queues, of its drain, or on both.
 fn on_first(
     slots: &mut [u32],
-    first: Holding,
+    first: State,
     other_slots: &mut [u32],
-    second: Holding,
+    second: State,
     call: Call,
     values: &[u32],
     bytes: &[u8],
-) -> Turned
+) -> StepAnswer
     ensures { λ r. ⌜
-        (ofTurned r, now (slots .exit), now («other_slots» .exit))
+        (ofStepAnswer r, now (slots .exit), now («other_slots» .exit))
         ≡ toldFirst (now (slots .entry)) (heldOf first) (now («other_slots» .entry)) (heldOf second)
         (callOf call (now (values .entry)) (now (bytes .entry)))
         ⌝ }
@@ -119,16 +120,16 @@ fn on_first(
 // a sequence of them is a sequence of the rules' steps.
 pub fn turn(
     a_slots: &mut [u32],
-    a: Holding,
+    a: State,
     b_slots: &mut [u32],
-    b: Holding,
+    b: State,
     side: Side,
     call: Call,
     values: &[u32],
     bytes: &[u8],
-) -> Turned
+) -> StepAnswer
     ensures { λ r. ⌜
-        (ofTurned r, now («a_slots» .exit), now («b_slots» .exit))
+        (ofStepAnswer r, now («a_slots» .exit), now («b_slots» .exit))
         ≡ toldTurn (now («a_slots» .entry)) (heldOf a) (now («b_slots» .entry)) (heldOf b)
         (turnOf side call (now (values .entry)) (now (bytes .entry)))
         ⌝ }

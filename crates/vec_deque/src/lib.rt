@@ -1,14 +1,14 @@
 // The face: every public item that a user of the queue names. Each call takes the lent slots, the record by value and its operands, and refuses what can't be met.
 
 // The record, its place, the answers and the refusals.
+pub use elements::Found;
+pub use elements::Handed;
+pub use elements::fresh;
 pub use places::WrappedIndex;
 pub use queue::Change;
 pub use queue::Deque;
-pub use queue::Found;
-pub use queue::Handed;
 pub use queue::Made;
 pub use queue::Refusal;
-pub use queue::fresh;
 
 // A test of an element, for the conditional pops, `retain` and `partition_point`.
 pub use conditions::Test;
@@ -42,54 +42,54 @@ pub use extends::extend;
 pub use extends::extend_front;
 pub use extends::prepend;
 pub use extends::resize;
-pub use joins::Joined;
-pub use joins::Split;
 pub use joins::append;
 pub use joins::split_off;
+pub use queue::Joined;
+pub use queue::Split;
 
 // Drains and splices.
-pub use drains::Closed;
-pub use drains::Drain;
-pub use drains::Drawn;
-pub use drains::Opened;
 pub use drains::drain;
 pub use drains::drain_close;
 pub use drains::drain_next;
 pub use drains::drain_next_back;
+pub use elements::Drawn;
+pub use queue::Closed;
+pub use queue::Drain;
+pub use queue::Opened;
 pub use splices::splice;
 
 // The two runs of a range.
-pub use runs::Ranges;
-pub use runs::Span;
+pub use queue::Ranges;
+pub use queue::Span;
 pub use runs::back_run;
 pub use runs::front_run;
 pub use runs::slice_ranges;
 
 // Walks, by value and borrowing.
-pub use walks::Begun;
+pub use elements::Stepped;
+pub use queue::Begun;
+pub use queue::Walk;
 pub use walks::Iterator;
 pub use walks::IteratorStep;
-pub use walks::Stepped;
-pub use walks::Walk;
 pub use walks::begin_walk;
 pub use walks::iter;
 pub use walks::walk_next;
 pub use walks::walk_next_back;
 
 // Comparing.
-pub use comparisons::Ordering;
-pub use comparisons::Truth;
 pub use comparisons::cmp;
 pub use comparisons::contains;
 pub use comparisons::eq;
+pub use queue::Ordering;
+pub use queue::Truth;
 
 // Searching.
-pub use search::Point;
-pub use search::Searched;
+pub use queue::Point;
+pub use queue::Searched;
 pub use search::binary_search;
 pub use search::partition_point;
 
 // Saved images.
-pub use images::Written;
 pub use images::read_image;
 pub use images::write_image;
+pub use queue::Written;

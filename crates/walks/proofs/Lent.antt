@@ -21,10 +21,10 @@ use denote.Steps.{owned}
 use denote.Struct.Laws as LL
 use denote.Struct.Rest.{all-own, own-open, own-shut}
 use denote.Struct.Values.{Values}
-use Rattle.walks.specs.declared.Walk.{Walk}
+use Rattle.queue.specs.declared.records.Walk.{Walk}
 use Rattle.walks.specs.declared.Iterator.{Iterator}
-use Rattle.walks.proofs.Walk as N
-use Rattle.walks.proofs.Walk.Laws as N′
+use Rattle.queue.proofs.records.Walk as N
+use Rattle.queue.proofs.records.Walk.Laws as N′
 use Rattle.walks.proofs.Iterator as T
 use Rattle.walks.proofs.Iterator.Laws as T′
 

@@ -43,16 +43,18 @@ use denote.Triple.Walked.{says, Stays, stay-none, walkOf, goes-none, Walks, ends
 use denote.Triple.Clauses.{Clauses, ensured, lasts, closing}
 use denote.Exit.{yes}
 use Rattle.rules.specs.Walks.{Walk as RuledWalk, WalkStep as RuledStep}
-use Rattle.walks.specs.Answers.{ofStepped, walkIn, walkOf as ruled}
-use Rattle.walks.specs.declared.Walk.{Walk}
-use Rattle.walks.specs.declared.Stepped.{Stepped}
+use Rattle.elements.specs.Answers.{ofStepped}
+use Rattle.walks.specs.Lent.{walkIn}
+use Rattle.queue.specs.Looks.{walkOf as ruled}
+use Rattle.queue.specs.declared.records.Walk.{Walk}
+use Rattle.elements.specs.declared.answers.Stepped.{Stepped}
 use Rattle.walks.specs.declared.Iterator.{Iterator}
 use Rattle.walks.specs.declared.IteratorStep.{IteratorStep}
-use Rattle.queue.proofs.Deque.Laws as Q′
-use Rattle.walks.proofs.Walk as N
-use Rattle.walks.proofs.Walk.Laws as N′
-use Rattle.walks.proofs.Stepped as S
-use Rattle.walks.proofs.Stepped.Laws as S′
+use Rattle.queue.proofs.records.Deque.Laws as Q′
+use Rattle.queue.proofs.records.Walk as N
+use Rattle.queue.proofs.records.Walk.Laws as N′
+use Rattle.elements.proofs.answers.Stepped as S
+use Rattle.elements.proofs.answers.Stepped.Laws as S′
 use Rattle.walks.proofs.Iterator as T
 use Rattle.walks.proofs.Iterator.Laws as T′
 use Rattle.walks.proofs.IteratorStep as R

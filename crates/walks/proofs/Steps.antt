@@ -3,25 +3,21 @@ use mathlib.Core.List.{List}
 use mathlib.Core.Logic.{_≢_}
 use mathlib.Core.Option.{some, none}
 use mathlib.Core.Path.{_≡_, sym, _∙_, ap, refl}
-use Prim.Native.Nat.{ℕ, _<_, _≤_, _-_, _+_}
+use Prim.Native.Nat.{ℕ, _≤_, _-_, _+_}
 use native.Mathlib.Omega.{arith}
-use borrow.Author.Tests.{lt-leb, le-leb, le-ltb, lt-ltb}
+use borrow.Author.Tests.{le-ltb, lt-ltb}
 use lib.Dec.{leb, leb→le, ltb}
 use lib.ListN.{length, getD}
-use Rattle.queue.proofs.Checks.{fine}
 use Rattle.queue.proofs.Numbers.{some-number}
 use Rattle.queue.specs.Answers.{numberOf}
-use Rattle.rules.proofs.Refusals.{queue-stop, queue-go, queue-ok, T-and}
-use Rattle.rules.proofs.Slots.{getD-listOf}
+use Rattle.rules.proofs.Refusals.{queue-ok, T-and}
 use Rattle.rules.proofs.Tests.{unless-stop, passed}
 use Rattle.rules.specs.Looks.{refuses, looked, sees}
-use Rattle.rules.specs.Places.{place}
 use Rattle.rules.specs.Records.{Rec, held}
 use Rattle.rules.specs.Refusals.{onQueue}
-use Rattle.rules.specs.Tests.{unless, ask, whether}
+use Rattle.rules.specs.Tests.{unless, whether}
 use Rattle.rules.specs.Walks.{beginWalk, wholeWalk, Walk, WalkStep, onWalk, nextStep, nextBackStep, sameWalk}
-use Rattle.queue.specs.declared.Refusal.{Refusal}
-use Rattle.queue.specs.declared.Refusal.the-variants.{Record}
+use Rattle.queue.specs.declared.refusals.Refusal.{Refusal}
 
 -- ---- the walk that is begun
 
@@ -33,26 +29,6 @@ module _ (b : List ℕ) (r : Rec) where
   pub begun : (w : Walk) → onQueue (length b) r 0 ≡ 0 → w ≡ wholeWalk r → sees w ≡ beginWalk b r
   unfolding beginWalk looked unless
   begun w e whole = rw (e, whole)
-
--- ---- the tests of a walk
-
-module _ (c : ℕ) (w : Walk) where
-  pub first-stops : (x : Refusal) → onQueue c (w .rec) 0 ≡ numberOf x → numberOf x ≡ onWalk c w
-  unfolding onWalk
-  first-stops x e = sym (queue-stop c (w .rec) _ (numberOf x) (some-number x) e)
-
-  module _ (first : onQueue c (w .rec) 0 ≡ 0) where
-    pub low-stops : w .high < w .low → numberOf Record ≡ onWalk c w
-    unfolding onWalk ask numberOf
-    low-stops lt = sym (queue-go c (w .rec) _ first ∙ rw (lt-leb (w .low) (w .high) lt))
-
-    pub high-stops : w .low ≤ w .high → w .rec .len < w .high → numberOf Record ≡ onWalk c w
-    unfolding onWalk ask numberOf
-    high-stops le lt = sym (queue-go c (w .rec) _ first ∙ rw (le-leb (w .low) (w .high) le, lt-leb (w .high) (w .rec .len) lt))
-
-    pub none-stops : w .low ≤ w .high → w .high ≤ w .rec .len → 0 ≡ onWalk c w
-    unfolding onWalk ask
-    none-stops le le′ = sym (queue-go c (w .rec) _ first ∙ rw (le-leb (w .low) (w .high) le, le-leb (w .high) (w .rec .len) le′))
 
 -- ---- past the tests
 
@@ -71,13 +47,6 @@ walkable b w z =
       low-high = leb→le (w .low) (w .high) (t .0);
       high-len = leb→le (w .high) (w .rec .len) (t .1);
     }
-
--- the element at a position, from its slot
-pub element-at : (b : List ℕ) (r : Rec) (i p : ℕ) → onQueue (length b) r 0 ≡ 0 → i < r .len → p ≡ place (length b) (r .head) i → getD b p 0 ≡ getD (held b r) i 0
-unfolding held
-element-at b r i p first lt e =
-    let g = fine b r first .good in
-    ap (λ (k : ℕ). getD b k 0) e ∙ sym (getD-listOf b (r .head) (omega arith) (r .len) i (g .fits) lt)
 
 -- ---- a step, at either end
 

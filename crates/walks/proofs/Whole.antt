@@ -13,7 +13,8 @@ use Rattle.rules.specs.Count.{asList}
 use Rattle.rules.specs.Records.{Rec, held}
 use Rattle.rules.specs.Refusals.{onQueue}
 use Rattle.rules.specs.Walks.{Walk, WalkStep, onWalk, wholeWalk, nextStep, nextBackStep}
-use Rattle.walks.proofs.Steps.{End, front, back, stepAt, nextAt, walkAfter, walkable, none-stops, nothing-left, one-given}
+use Rattle.walks.proofs.Steps.{End, front, back, stepAt, nextAt, walkAfter, walkable, nothing-left, one-given}
+use Rattle.queue.proofs.WalkChecks.{none-stops}
 
 -- what a walk has still to give
 abbrev pub ahead : List ℕ → Walk → List ℕ

@@ -1,2 +1,2 @@
--- The answers as the public contracts read them.
-pub mod Answers
+-- A borrowing walk as the public contracts read it.
+pub mod Lent

@@ -1,46 +1,18 @@
 // Walks over a queue's list, from both ends. A walk keeps the queue's record and its own two ends.
+use elements::Stepped;
+use elements::element;
+use queue::Begun;
 use queue::Checked;
 use queue::Deque;
-use queue::Refusal;
+use queue::Walk;
+use queue::check_walk;
+use queue::whole_walk;
 ghost use mathlib.Core.Path.{_≡_};
-ghost use Prim.Native.Nat.{_<_};
-ghost use lib.ListN.{length, getD};
-ghost use Rattle.rules.specs.Records.{held};
-ghost use Rattle.rules.specs.Refusals.{onQueue};
-ghost use Rattle.rules.specs.Walks.{onWalk, wholeWalk, beginWalk, nextStep, nextBackStep};
-ghost use Rattle.queue.specs.Answers.{recOf, numberIn};
-ghost use Rattle.walks.specs.Answers.{walkOf, ofBegun, ofStepped, walkIn};
-
-// What is still to be walked: the positions from `low` to before `high`.
-pub struct Walk {
-    pub queue: Deque,
-    pub low: usize,
-    pub high: usize,
-}
-
-// The answer of the call that begins a walk.
-pub enum Begun {
-    Walk(Walk),
-    Refused(Refusal),
-}
-
-// The answer of a step. Nothing and a refusal hand back the same walk.
-pub enum Stepped {
-    Number { number: u32, walk: Walk },
-    Nothing { walk: Walk },
-    Refused { refusal: Refusal, walk: Walk },
-}
-
-// The walk over the whole list of a queue.
-fn whole_walk(q: Deque) -> Walk
-    ensures { λ r. ⌜ walkOf r ≡ wholeWalk (recOf q) ⌝ }
-{
-    Walk {
-        queue: q,
-        low: 0,
-        high: q.len,
-    }
-}
+ghost use Rattle.rules.specs.Walks.{wholeWalk, beginWalk, nextStep, nextBackStep};
+ghost use Rattle.queue.specs.Answers.{recOf};
+ghost use Rattle.queue.specs.Looks.{walkOf, ofBegun};
+ghost use Rattle.elements.specs.Answers.{ofStepped};
+ghost use Rattle.walks.specs.Lent.{walkIn};
 
 // A walk over the whole list.
 pub fn begin_walk(slots: &[u32], q: Deque) -> Begun
@@ -51,32 +23,6 @@ pub fn begin_walk(slots: &[u32], q: Deque) -> Begun
         return Begun::Refused(refusal);
     }
     Begun::Walk(whole_walk(q))
-}
-
-// The tests of slots, record and ends, in their order.
-fn check_walk(cap: usize, w: Walk) -> Checked
-    ensures { λ r. ⌜ numberIn r ≡ onWalk cap (walkOf w) ⌝ }
-{
-    if let Checked::Refused(refusal) = queue::check(cap, w.queue) {
-        return Checked::Refused(refusal);
-    }
-    if w.low > w.high {
-        return Checked::Refused(Refusal::Record);
-    }
-    if w.high > w.queue.len {
-        return Checked::Refused(Refusal::Record);
-    }
-    Checked::Good
-}
-
-// The element at position `i`.
-fn element(slots: &[u32], q: Deque, i: usize) -> u32
-    requires { ⌜ (onQueue (length (now slots)) (recOf q) 0 ≡ 0) × (i < q .len) ⌝ }
-    ensures { λ r. ⌜ r ≡ getD (held (now (slots .entry)) (recOf q)) i 0 ⌝ }
-{
-    let at = places::wrap_add(slots.len(), q.head, i);
-    let slot = at.as_index();
-    slots[slot]
 }
 
 // Gives the element at the low end, which steps on by one.

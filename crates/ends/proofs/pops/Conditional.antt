@@ -11,7 +11,8 @@ use lib.Dec.{eqb}
 use lib.ListN.{length, getElem?}
 use Rattle.ends.specs.Conditional.{onlyIf}
 use Rattle.queue.proofs.Numbers.{some-number}
-use Rattle.queue.specs.Answers.{recOf, ofHanded}
+use Rattle.queue.specs.Answers.{recOf}
+use Rattle.elements.specs.Answers.{ofHanded}
 use Rattle.rules.proofs.Told.{accepts-same, first-refused, accepts, alike}
 use Rattle.rules.specs.Conditions.{Test, meets, passes}
 use Rattle.rules.specs.Ends.{popFront, popFrontIf, popBack, popBackIf}
@@ -22,10 +23,10 @@ use Rattle.rules.specs.Refusals.{onChange}
 use Rattle.rules.specs.Rule.{Rule, after}
 use Rattle.rules.specs.Slots.{listOf, read}
 use Rattle.rules.specs.Tests.{whether}
-use Rattle.queue.specs.declared.Deque.{Deque}
-use Rattle.queue.specs.declared.Refusal.{Refusal}
-use Rattle.queue.specs.declared.Handed.{Handed}
-use Rattle.queue.specs.declared.Handed.the-variants.{Number, Nothing, Refused}
+use Rattle.queue.specs.declared.records.Deque.{Deque}
+use Rattle.queue.specs.declared.refusals.Refusal.{Refusal}
+use Rattle.elements.specs.declared.answers.Handed.{Handed}
+use Rattle.elements.specs.declared.answers.Handed.the-variants.{Number, Nothing, Refused}
 
 -- ---- one law for each return of `only_if`
 

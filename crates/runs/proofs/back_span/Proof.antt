@@ -3,7 +3,7 @@ use mathlib.Core.Path.{ap, sym, _∙_}
 use borrow.Author.Needs.{needs}
 use Rattle.rules.specs.Runs.{TwoRuns}
 use Rattle.runs.proofs.Spans.{runs-seen, runs-refused}
-use Rattle.runs.specs.Answers.{ofRanges}
+use Rattle.queue.specs.Looks.{ofRanges}
 use Rattle.runs.proofs.back_span.Statement.{statement}
 use Rattle.runs.proofs.back_span.Tie as tie
 

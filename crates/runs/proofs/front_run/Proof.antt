@@ -6,7 +6,7 @@ use denote.Ref.{now}
 use lib.ListN.{length}
 use Rattle.rules.specs.Runs.{part, frontRun}
 use Rattle.runs.proofs.Spans.{Within, runs-within}
-use Rattle.runs.specs.Answers.{spanOf}
+use Rattle.queue.specs.Looks.{spanOf}
 use Rattle.runs.specs.Parts.{partStart}
 use Rattle.runs.proofs.front_run.Statement.{statement}
 use Rattle.runs.proofs.front_run.Tie as tie

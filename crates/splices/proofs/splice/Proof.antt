@@ -5,10 +5,10 @@ use native.Mathlib.Omega.{arith}
 use borrow.Author.Needs.{needs}
 use denote.Ref.{now}
 use lib.ListN.{length}
-use Rattle.drains.proofs.Ranges.{range-turned, range-past}
-use Rattle.queue.proofs.Checks.{passed-zero, Fine, fine-change, told-first}
+use Rattle.queue.proofs.Checks.{passed-zero, failed-number, Fine, fine-change, told-first}
 use Rattle.queue.specs.Answers.{recOf}
-use Rattle.rules.specs.Refusals.{onChange}
+use Rattle.rules.proofs.Refusals.{range-ok}
+use Rattle.rules.specs.Refusals.{onChange, inRange}
 use Rattle.splices.proofs.Made.{spliced-good}
 use Rattle.splices.proofs.Spliced.{splice-range, splice-full, spliced}
 use Rattle.splices.proofs.splice.Statement.{statement}
@@ -20,6 +20,10 @@ past c = passed-zero _ _ (c .before .before .check-change .ensures) (c .enum-tol
 
 ok : (c : tie.After-enum-told) → Fine (now (c .before .before .before .before .before .args .slots)) (recOf (c .before .before .before .before .before .args .q))
 ok c = fine-change _ _ (past c)
+
+-- past the range test it is a range
+ranged : (c : tie.After-enum-told2) → inRange (c .before .before .before .before .before .before .before .before .args .q .len) (c .before .before .before .before .before .before .before .before .args .start) (c .before .before .before .before .before .before .before .before .args .end) 0 ≡ 0
+ranged c = passed-zero _ _ (c .before .before .check-range .ensures) (c .enum-told2 .given .1)
 
 check-change-requires : tie.Need-check-change-requires
 check-change-requires c κs = search needs
@@ -38,46 +42,60 @@ returns c =
 enum-told : tie.Need-enum-told
 enum-told c = search needs
 
+check-range-requires : tie.Need-check-range-requires
+check-range-requires c κs = search needs
+
+enum-known-refusal-2 : tie.Need-enum-known-refusal-2
+enum-known-refusal-2 c = search needs
+
 refused-requires-2 : tie.Need-refused-requires-2
 refused-requires-2 c κs = search needs
 
 returns-2 : tie.Need-returns-2
 returns-2 c =
     rw (c .refused2 .ensures)
-    (splice-range _ _ _ _ _ (past (c .before .before)) (range-turned _ _ _ _ (omega arith)))
+    (splice-range _ _ _ _ _ (past (c .before .before .before .before .before)) _
+    (failed-number _ _ _ (c .before .before .before .before .check-range .ensures) (c .before .before .refusal2 .given .1)))
+
+enum-told-2 : tie.Need-enum-told-2
+enum-told-2 c = search needs
+
+sub-tail : tie.Need-sub-tail
+sub-tail c = let k = range-ok _ _ _ _ (ranged c) in omega arith
+
+sub-if1 : tie.Need-sub-if1
+sub-if1 c = let k = range-ok _ _ _ _ (ranged c) in let g = ok (c .before .before .before) .good in omega arith
+
+sub-if1-2 : tie.Need-sub-if1-2
+sub-if1-2 c = let k = range-ok _ _ _ _ (ranged c) in let g = ok (c .before .before .before) .good in omega arith
 
 refused-requires-3 : tie.Need-refused-requires-3
 refused-requires-3 c κs = search needs
 
 returns-3 : tie.Need-returns-3
 returns-3 c =
-    rw (c .refused3 .ensures)
-    (splice-range _ _ _ _ _ (past (c .before .before .before)) (range-past _ _ _ _ (omega arith) (omega arith)))
+    let k = range-ok _ _ _ _ (ranged (c .before .before)) in
+    let g = ok (c .before .before .before .before .before) .good in
+    rw (c .refused3 .ensures) (splice-full _ _ _ _ _ (past (c .before .before .before .before .before)) (ranged (c .before .before)) (omega arith))
 
-sub-if3 : tie.Need-sub-if3
-sub-if3 c = let g = ok (c .before .before) .good in omega arith
-
-sub-if3-2 : tie.Need-sub-if3-2
-sub-if3-2 c = let g = ok (c .before .before) .good in omega arith
-
-refused-requires-4 : tie.Need-refused-requires-4
-refused-requires-4 c κs = search needs
-
-returns-4 : tie.Need-returns-4
-returns-4 c =
-    rw (c .refused4 .ensures)
-    (let g = ok (c .before .before .before .before) .good in splice-full _ _ _ _ _ (past (c .before .before .before .before)) (omega arith) (omega arith) (omega arith))
+sub-make-room : tie.Need-sub-make-room
+sub-make-room c = let k = range-ok _ _ _ _ (ranged (c .before .before .before)) in omega arith
 
 make-room-requires : tie.Need-make-room-requires
-make-room-requires c κs = let g = ok (c .before .before .before .before .before) .good in let f = ok (c .before .before .before .before .before) .few in omega arith
+make-room-requires c κs =
+    let k = range-ok _ _ _ _ (ranged (c .before .before .before)) in
+    let f = ok (c .before .before .before .before .before .before) in
+    let g = f .good in
+    omega arith
 
 fill-requires : tie.Need-fill-requires
 fill-requires c κs =
-    let a = c .before .before .before .before .before .before .before .before .before .before .before .before .before .before .before .args in
-    let f = ok (c .before .before .before .before .before .before .before .before .before .before) in
+    let a = c .before .before .before .before .before .before .before .before .before .before .before .before .before .before .before .before .args in
+    let k = range-ok _ _ _ _ (ranged (c .before .before .before .before .before .before .before .before)) in
+    let f = ok (c .before .before .before .before .before .before .before .before .before .before .before) in
     let g = f .good in
     let e = c .before .before .before .before .make-room .ensures in
-    let k = e .room .long in
+    let l = e .room .long in
     let p = spliced-good (length (now (a .slots))) (a .q .head .0) (a .start) (a .end - a .start) (length (now (a .values))) (a .q .len - a .end) (g .placed) (omega arith) in
     omega (arith, e .head)
 
@@ -85,7 +103,7 @@ add-left : tie.Need-add-left
 add-left c = search needs
 
 add-left-2 : tie.Need-add-left-2
-add-left-2 c = search needs
+add-left-2 c = let k = range-ok _ _ _ _ (ranged (c .before .before .before .before .before .before .before .before .before .before .before)) in let g = ok (c .before .before .before .before .before .before .before .before .before .before .before .before .before .before) .good in omega arith
 
 head-over-requires : tie.Need-head-over-requires
 head-over-requires c κs = search needs
@@ -96,10 +114,11 @@ stepped-requires c κs = search needs
 same-length : tie.Need-same-length
 same-length c = search needs
 
-returns-5 : tie.Need-returns-5
-returns-5 c =
-    let g = ok (c .before .before .before .before .before .before .before .before .before .before .before .before .before .before .before) .good in
-    spliced _ _ _ _ _ (past (c .before .before .before .before .before .before .before .before .before .before .before .before .before .before .before)) (omega arith) (omega arith) _ _ _ _ _ _ (omega arith) (c .before .before .before .before .before .before .before .before .before .make-room .ensures) (c .before .before .before .before .fill .ensures) (c .before .head-over .ensures) (c .stepped .ensures)
+returns-4 : tie.Need-returns-4
+returns-4 c =
+    let k = range-ok _ _ _ _ (ranged (c .before .before .before .before .before .before .before .before .before .before .before .before .before)) in
+    let g = ok (c .before .before .before .before .before .before .before .before .before .before .before .before .before .before .before .before) .good in
+    spliced _ _ _ _ _ (past (c .before .before .before .before .before .before .before .before .before .before .before .before .before .before .before .before)) (ranged (c .before .before .before .before .before .before .before .before .before .before .before .before .before)) _ _ _ _ _ _ (omega arith) (c .before .before .before .before .before .before .before .before .before .make-room .ensures) (c .before .before .before .before .fill .ensures) (c .before .head-over .ensures) (c .stepped .ensures)
 
 pub splice-spec : {M : Type 1} → statement M
 splice-spec =
@@ -110,14 +129,17 @@ splice-spec =
     refused-requires
     returns
     enum-told
+    check-range-requires
+    enum-known-refusal-2
     refused-requires-2
     returns-2
+    enum-told-2
+    sub-tail
+    sub-if1
+    sub-if1-2
     refused-requires-3
     returns-3
-    sub-if3
-    sub-if3-2
-    refused-requires-4
-    returns-4
+    sub-make-room
     make-room-requires
     fill-requires
     add-left
@@ -125,4 +147,4 @@ splice-spec =
     head-over-requires
     stepped-requires
     same-length
-    returns-5)
+    returns-4)

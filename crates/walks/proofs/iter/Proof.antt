@@ -38,19 +38,19 @@ use denote.Triple.Walked.{says, Stays, stay-none, stay-none-slice, walkOf, goes-
 use denote.Triple.Clauses.{ensured, lasts}
 use denote.Exit.{yes}
 use Rattle.queue.specs.Answers.{recOf}
-use Rattle.queue.specs.declared.Deque.{Deque}
-use Rattle.queue.proofs.Deque as Q
-use Rattle.queue.proofs.Deque.Laws as Q′
+use Rattle.queue.specs.declared.records.Deque.{Deque}
+use Rattle.queue.proofs.records.Deque as Q
+use Rattle.queue.proofs.records.Deque.Laws as Q′
 use Rattle.rules.specs.Walks.{wholeWalk}
-use Rattle.walks.specs.Answers.{walkOf as ruled}
-use Rattle.walks.specs.declared.Walk.{Walk}
+use Rattle.queue.specs.Looks.{walkOf as ruled}
+use Rattle.queue.specs.declared.records.Walk.{Walk}
 use Rattle.walks.proofs.Lent.{lent, Slots, walk-is, walk-typed, lends}
-use Rattle.walks.proofs.Walk as N
-use Rattle.walks.proofs.Walk.Laws as N′
+use Rattle.queue.proofs.records.Walk as N
+use Rattle.queue.proofs.records.Walk.Laws as N′
 use Rattle.walks.proofs.Iterator.Laws as T′
-use Rattle.walks.proofs.whole_walk as all
-use Rattle.walks.proofs.whole_walk.Symbol as called
-use Rattle.walks.proofs.whole_walk.Met as known
+use Rattle.queue.proofs.whole_walk as all
+use Rattle.queue.proofs.whole_walk.Symbol as called
+use Rattle.queue.proofs.whole_walk.Met as known
 use Rattle.walks.proofs.iter.Key.{name}
 use Rattle.walks.proofs.iter as iter
 use Rattle.walks.proofs.iter.Statement as stated
@@ -136,4 +136,4 @@ iter-spec 𝓤 H 𝓜 𝓖 𝓡 =
     entered 𝓤 H (tripleOf 𝓤 H (𝓖 .A) iter.signature (iter.spec 𝓤 H (𝓖 .A) (𝓜 .mem) (𝓡 .run)))
     (tables 𝓤 H 𝓜 𝓡 code.env .C) (tables 𝓤 H 𝓜 𝓡 code.env .Λ) name code.function (code.unfolded 𝓤 H 𝓜 𝓡)
     (iter-meets 𝓤 H (𝓖 .A) (givenOf 𝓤 H 𝓜 𝓖) (𝓜 .mem) (𝓡 .run) (tablesOf 𝓤 H 𝓜 (tables 𝓤 H 𝓜 𝓡 code.env))
-    (cited 𝓤 H (All 𝓤 H (𝓖 .A) (𝓜 .mem) (𝓡 .run)) 𝓜 𝓡 code.env called.name called.routine code.calls-walks·whole-walk (known.met 𝓤 H 𝓜 𝓖 𝓡)))
+    (cited 𝓤 H (All 𝓤 H (𝓖 .A) (𝓜 .mem) (𝓡 .run)) 𝓜 𝓡 code.env called.name called.routine code.calls-queue·whole-walk (known.met 𝓤 H 𝓜 𝓖 𝓡)))

@@ -1,8 +1,8 @@
 -- `walks::walk_after` meets its contract. Assumes nothing.
 use mathlib.Core.Path.{sym, ap}
 use Rattle.rules.specs.Walks.{Walk}
-use Rattle.walks.specs.Answers.{ofStepped}
-use Rattle.walks.specs.declared.Stepped.{Stepped}
+use Rattle.elements.specs.Answers.{ofStepped}
+use Rattle.elements.specs.declared.answers.Stepped.{Stepped}
 use borrow.Author.Needs.{needs}
 use Rattle.walks.proofs.walk_after.Statement.{statement}
 use Rattle.walks.proofs.walk_after.Tie as tie

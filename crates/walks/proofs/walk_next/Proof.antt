@@ -7,7 +7,7 @@ use lib.ListN.{length}
 use Rattle.queue.proofs.Checks.{passed-zero, failed-number}
 use Rattle.rules.specs.Walks.{onWalk}
 use Rattle.walks.proofs.Steps.{Walkable, walkable, step-refused, front, nothing-left, one-given}
-use Rattle.walks.specs.Answers.{walkOf}
+use Rattle.queue.specs.Looks.{walkOf}
 use Rattle.walks.proofs.walk_next.Statement.{statement}
 use Rattle.walks.proofs.walk_next.Tie as tie
 

@@ -1,5 +1,7 @@
 -- `journals::performing::drain_closed` meets its contract. Assumes nothing.
-use Rattle.journals.proofs.Performs.{drain-free, drain-done, drain-refused}
+use mathlib.Core.Path.{ap}
+use Rattle.journals.proofs.Performs.{stays-shut, opens-closes}
+use Rattle.queue.specs.Drains.{heldOf}
 use borrow.Author.Needs.{needs}
 use Rattle.journals.proofs.performing.drain_closed.Statement.{statement}
 use Rattle.journals.proofs.performing.drain_closed.Tie as tie
@@ -7,43 +9,48 @@ use Rattle.journals.proofs.performing.drain_closed.Tie as tie
 drain-requires : tie.Need-drain-requires
 drain-requires c κs = search needs
 
-enum-known-drain : tie.Need-enum-known-drain
-enum-known-drain c = search needs
+of-opened-requires : tie.Need-of-opened-requires
+of-opened-requires c κs = search needs
+
+enum-told : tie.Need-enum-told
+enum-told c = search needs
+
+enum-known-state : tie.Need-enum-known-state
+enum-known-state c = search needs
 
 drain-close-requires : tie.Need-drain-close-requires
 drain-close-requires c κs = search needs
 
 of-closed-requires : tie.Need-of-closed-requires
-of-closed-requires c κs = drain-free _ _ _ _ _ _ _ _ (c .before .before .drain-close .result) (c .before .before .before .before .before .drain2 .given .1) (c .before .before .before .before .before .before .before .drain .ensures) (c .before .before .drain-close .ensures)
-
-enum-known-refusal : tie.Need-enum-known-refusal
-enum-known-refusal c = search needs
-
-number-of-requires : tie.Need-number-of-requires
-number-of-requires c κs = search needs
+of-closed-requires c κs = search needs
 
 same-length : tie.Need-same-length
 same-length c = search needs
 
 returns : tie.Need-returns
-returns c = drain-done _ _ _ _ _ _ _ _ (c .before .before .before .drain-close .result) _ (c .before .before .before .before .before .before .drain2 .given .1) (c .before .before .before .before .before .before .before .before .drain .ensures) (c .before .before .before .drain-close .ensures) (c .of-closed .ensures)
+returns c =
+    stays-shut _ _ _ _ (c .before .before .of-opened .ensures) (c .before .before .before .drain .ensures) _ (ap heldOf (c .enum-told .given .1))
 
 same-length-2 : tie.Need-same-length-2
 same-length-2 c = search needs
 
 returns-2 : tie.Need-returns-2
-returns-2 c = drain-refused _ _ _ _ _ _ _ _ _ (c .before .before .refusal .given .1) (c .before .before .before .before .drain .ensures) (c .number-of .ensures)
+returns-2 c =
+    opens-closes _ _ _ _ (c .before .before .before .before .before .before .before .before .of-opened .ensures)
+    (c .before .before .before .before .before .before .before .before .before .drain .ensures) _
+    (ap heldOf (c .before .before .before .before .before .before .state .given .1)) _ _ _ (c .of-closed .ensures)
+    (c .before .before .before .drain-close .ensures)
 
 pub drain-closed-spec : {M : Type 1} → statement M
 drain-closed-spec =
     tie.close
     (tie.spec
     drain-requires
-    enum-known-drain
+    of-opened-requires
+    enum-told
+    enum-known-state
     drain-close-requires
     of-closed-requires
-    enum-known-refusal
-    number-of-requires
     same-length
     returns
     same-length-2

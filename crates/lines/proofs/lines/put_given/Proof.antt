@@ -1,8 +1,8 @@
 -- `lines::lines::put_given` meets its contract. Assumes nothing.
 use native.Mathlib.Omega.{arith}
 use mathlib.Core.Path.{_≡_, refl, sym, _∙_, ap}
-use Rattle.answers.specs.Replies.{ofGiven}
-use Rattle.answers.specs.declared.Given.{Given}
+use Rattle.elements.specs.Answers.{ofGiven}
+use Rattle.elements.specs.declared.answers.Given.{Given}
 use mathlib.Core.List.{_∷_}
 use Rattle.lines.proofs.Puts.{puts-as}
 use Rattle.rules.specs.Replays.{space, numberOrNone}

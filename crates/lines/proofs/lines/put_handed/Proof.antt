@@ -1,6 +1,6 @@
 -- `lines::lines::put_handed` meets its contract. Assumes nothing.
 use native.Mathlib.Omega.{arith}
-use Rattle.answers.specs.Replies.{ofGiven}
+use Rattle.elements.specs.Answers.{ofGiven}
 use Rattle.lines.proofs.Words.{says, says-nothing}
 use borrow.Author.Needs.{needs}
 use Rattle.lines.proofs.lines.put_handed.Statement.{statement}

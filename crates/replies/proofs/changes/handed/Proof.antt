@@ -3,7 +3,7 @@ use mathlib.Core.Path.{refl, ap}
 use Rattle.rules.specs.Outcome.{shut}
 use Rattle.replies.proofs.Arms.{arm-two}
 use Rattle.replies.specs.InC.{answerInC}
-use Rattle.queue.specs.Answers.{ofHanded}
+use Rattle.elements.specs.Answers.{ofHanded}
 use borrow.Author.Needs.{needs}
 use Rattle.replies.proofs.changes.handed.Statement.{statement}
 use Rattle.replies.proofs.changes.handed.Tie as tie

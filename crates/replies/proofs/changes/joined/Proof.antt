@@ -2,7 +2,7 @@
 use mathlib.Core.Path.{refl}
 use Rattle.replies.proofs.Arms.{arm-three}
 use Rattle.replies.specs.InC.{pairingInC}
-use Rattle.joins.specs.Answers.{ofJoined}
+use Rattle.queue.specs.Pairs.{ofJoined}
 use borrow.Author.Needs.{needs}
 use Rattle.replies.proofs.changes.joined.Statement.{statement}
 use Rattle.replies.proofs.changes.joined.Tie as tie

@@ -2,7 +2,7 @@
 use mathlib.Core.Path.{refl}
 use Rattle.replies.proofs.Arms.{arm, arm-refused}
 use Rattle.replies.specs.InC.{seenInC}
-use Rattle.queue.specs.Answers.{ofFound}
+use Rattle.elements.specs.Answers.{ofFound}
 use borrow.Author.Needs.{needs}
 use Rattle.replies.proofs.looks.of_found.Statement.{statement}
 use Rattle.replies.proofs.looks.of_found.Tie as tie

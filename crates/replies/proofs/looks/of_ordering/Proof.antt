@@ -2,7 +2,7 @@
 use mathlib.Core.Path.{refl}
 use Rattle.replies.proofs.Arms.{arm, arm-refused}
 use Rattle.replies.specs.InC.{orderInC}
-use Rattle.comparisons.specs.Answers.{ofOrdering}
+use Rattle.queue.specs.Looks.{ofOrdering}
 use borrow.Author.Needs.{needs}
 use Rattle.replies.proofs.looks.of_ordering.Statement.{statement}
 use Rattle.replies.proofs.looks.of_ordering.Tie as tie

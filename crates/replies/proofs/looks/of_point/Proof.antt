@@ -2,7 +2,7 @@
 use mathlib.Core.Path.{refl}
 use Rattle.replies.proofs.Arms.{arm, arm-refused}
 use Rattle.replies.specs.InC.{countInC}
-use Rattle.search.specs.Answers.{ofPoint}
+use Rattle.queue.specs.Looks.{ofPoint}
 use borrow.Author.Needs.{needs}
 use Rattle.replies.proofs.looks.of_point.Statement.{statement}
 use Rattle.replies.proofs.looks.of_point.Tie as tie

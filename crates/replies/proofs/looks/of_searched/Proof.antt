@@ -2,7 +2,7 @@
 use mathlib.Core.Path.{refl}
 use Rattle.replies.proofs.Arms.{arm, arm-refused, few}
 use Rattle.replies.specs.InC.{spotInC}
-use Rattle.search.specs.Answers.{ofSearched}
+use Rattle.queue.specs.Looks.{ofSearched}
 use borrow.Author.Needs.{needs}
 use Rattle.replies.proofs.looks.of_searched.Statement.{statement}
 use Rattle.replies.proofs.looks.of_searched.Tie as tie

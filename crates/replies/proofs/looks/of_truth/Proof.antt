@@ -2,7 +2,7 @@
 use mathlib.Core.Path.{refl}
 use Rattle.replies.proofs.Arms.{arm, arm-refused}
 use Rattle.replies.specs.InC.{truthInC}
-use Rattle.comparisons.specs.Answers.{ofTruth}
+use Rattle.queue.specs.Looks.{ofTruth}
 use borrow.Author.Needs.{needs}
 use Rattle.replies.proofs.looks.of_truth.Statement.{statement}
 use Rattle.replies.proofs.looks.of_truth.Tie as tie

@@ -2,7 +2,7 @@
 use mathlib.Core.Path.{refl}
 use Rattle.replies.proofs.Arms.{arm, arm-refused}
 use Rattle.replies.specs.InC.{countInC}
-use Rattle.images.specs.Answers.{ofWritten}
+use Rattle.queue.specs.Looks.{ofWritten}
 use borrow.Author.Needs.{needs}
 use Rattle.replies.proofs.looks.of_written.Statement.{statement}
 use Rattle.replies.proofs.looks.of_written.Tie as tie

@@ -2,7 +2,7 @@
 use mathlib.Core.Path.{refl}
 use Rattle.replies.proofs.Arms.{arm-two}
 use Rattle.replies.specs.InC.{begunInC}
-use Rattle.walks.specs.Answers.{ofBegun}
+use Rattle.queue.specs.Looks.{ofBegun}
 use borrow.Author.Needs.{needs}
 use Rattle.replies.proofs.opens.begun.Statement.{statement}
 use Rattle.replies.proofs.opens.begun.Tie as tie

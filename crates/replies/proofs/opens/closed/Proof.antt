@@ -2,7 +2,7 @@
 use mathlib.Core.Path.{refl}
 use Rattle.replies.proofs.Arms.{arm-two}
 use Rattle.replies.specs.InC.{closingInC}
-use Rattle.drains.specs.Answers.{ofClosed}
+use Rattle.queue.specs.Drains.{ofClosed}
 use borrow.Author.Needs.{needs}
 use Rattle.replies.proofs.opens.closed.Statement.{statement}
 use Rattle.replies.proofs.opens.closed.Tie as tie

@@ -3,7 +3,7 @@ use mathlib.Core.Path.{refl, ap}
 use Rattle.rules.specs.Outcome.{drawn}
 use Rattle.replies.proofs.Arms.{arm-two}
 use Rattle.replies.specs.InC.{answerInC}
-use Rattle.drains.specs.Answers.{ofDrawn}
+use Rattle.elements.specs.Answers.{ofDrawn}
 use borrow.Author.Needs.{needs}
 use Rattle.replies.proofs.opens.drawn.Statement.{statement}
 use Rattle.replies.proofs.opens.drawn.Tie as tie

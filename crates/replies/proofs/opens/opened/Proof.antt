@@ -2,7 +2,7 @@
 use mathlib.Core.Path.{refl}
 use Rattle.replies.proofs.Arms.{arm-two}
 use Rattle.replies.specs.InC.{openingInC}
-use Rattle.drains.specs.Answers.{ofOpened}
+use Rattle.queue.specs.Drains.{ofOpened}
 use borrow.Author.Needs.{needs}
 use Rattle.replies.proofs.opens.opened.Statement.{statement}
 use Rattle.replies.proofs.opens.opened.Tie as tie

@@ -2,7 +2,7 @@
 use mathlib.Core.Path.{refl}
 use Rattle.replies.proofs.Arms.{arm-two}
 use Rattle.replies.specs.InC.{runsInC}
-use Rattle.runs.specs.Answers.{ofRanges}
+use Rattle.queue.specs.Looks.{ofRanges}
 use borrow.Author.Needs.{needs}
 use Rattle.replies.proofs.opens.ranged.Statement.{statement}
 use Rattle.replies.proofs.opens.ranged.Tie as tie

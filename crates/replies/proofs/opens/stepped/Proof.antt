@@ -2,7 +2,7 @@
 use mathlib.Core.Path.{refl, ap}
 use Rattle.replies.proofs.Arms.{arm-two}
 use Rattle.replies.specs.InC.{stepInC}
-use Rattle.walks.specs.Answers.{ofStepped}
+use Rattle.elements.specs.Answers.{ofStepped}
 use borrow.Author.Needs.{needs}
 use Rattle.replies.proofs.opens.stepped.Statement.{statement}
 use Rattle.replies.proofs.opens.stepped.Tie as tie

@@ -1,6 +1,6 @@
 -- `turns::steps::on_queue` meets its contract. Assumes nothing.
 use mathlib.Core.Path.{ap}
-use Rattle.turn_changes.specs.Answers.{heldOf}
+use Rattle.queue.specs.Drains.{heldOf}
 use Rattle.turns.proofs.Known.{first-known, queue-call-known}
 use Rattle.turns.proofs.Taken.{queue-over}
 use Rattle.turns.proofs.Told.{over, changed, asked}

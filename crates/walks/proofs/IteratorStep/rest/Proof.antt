@@ -38,14 +38,15 @@ use denote.Triple.Table.{entered, cited}
 use denote.Triple.Walked.{says, Stays, stay-none, walkOf, goes-none, Walks, ends-at, walked, walk-meets}
 use denote.Triple.Clauses.{ensured, lasts}
 use denote.Exit.{yes}
-use Rattle.walks.specs.Answers.{ofStepped, walkOf as ruled}
-use Rattle.walks.specs.declared.Walk.{Walk}
+use Rattle.elements.specs.Answers.{ofStepped}
+use Rattle.queue.specs.Looks.{walkOf as ruled}
+use Rattle.queue.specs.declared.records.Walk.{Walk}
 use Rattle.walks.specs.declared.IteratorStep.{IteratorStep}
 use Rattle.walks.proofs.Lent.{lent, walk-is, walk-typed, lends}
-use Rattle.walks.proofs.Walk as N
-use Rattle.walks.proofs.Walk.Laws as N′
-use Rattle.walks.proofs.Stepped as S
-use Rattle.walks.proofs.Stepped.Laws as S′
+use Rattle.queue.proofs.records.Walk as N
+use Rattle.queue.proofs.records.Walk.Laws as N′
+use Rattle.elements.proofs.answers.Stepped as S
+use Rattle.elements.proofs.answers.Stepped.Laws as S′
 use Rattle.walks.proofs.Iterator.Laws as T′
 use Rattle.walks.proofs.IteratorStep as R
 use Rattle.walks.proofs.IteratorStep.Laws as R′

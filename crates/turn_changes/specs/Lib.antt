@@ -1,2 +1,0 @@
--- What the answers mean.
-pub mod Answers

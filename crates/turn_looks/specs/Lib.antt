@@ -1,2 +1,0 @@
--- What was seen, in the terms of the rules.
-pub mod Sights
