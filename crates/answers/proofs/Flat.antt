@@ -1,9 +1,13 @@
 -- A refused answer has its refusal's number; an answer of which it is known which it is says what that one does. Assumes nothing.
-use mathlib.Core.Path.{_≡_, sym, ap}
+use mathlib.Core.Option.{Option}
+use mathlib.Core.Path.{_≡_, sym, _∙_, ap}
 use Prim.Native.Nat.{ℕ}
+use Rattle.answers.specs.Sights.{lookTold}
 use Rattle.answers.specs.Answers.{refusing, madeAnswer, bothHeld, bothSeen}
 use Rattle.queue.specs.Answers.{numberOf, ofMade}
 use Rattle.queue.specs.Pairs.{ofJoined, ofSplit}
+use Rattle.rules.specs.Asks.{Sight}
+use Rattle.rules.specs.Looks.{Look, seenAs}
 use Rattle.rules.specs.Outcome.{Held}
 use Rattle.queue.specs.declared.refusals.Refusal.{Refusal}
 use Rattle.queue.specs.declared.answers.Made.{Made}
@@ -30,3 +34,8 @@ joined-known h x k e = ap (λ (y : Joined). bothSeen h (ofJoined y)) (sym e)
 
 pub split-known : (h : Held) (x k : Split) → x ≡ k → bothSeen h (ofSplit k) ≡ bothSeen h (ofSplit x)
 split-known h x k e = ap (λ (y : Split). bothSeen h (ofSplit y)) (sym e)
+
+-- the answer of a look, which o reads and f tells
+pub look-known : {A B : Type 0} (f : B → Sight) (o : A → Look B) (p : ℕ × Option Sight) (x k : A) → x ≡ k
+    → p ≡ lookTold (seenAs f (o k)) → p ≡ lookTold (seenAs f (o x))
+look-known f o p x k e t = t ∙ ap (λ y. lookTold (seenAs f (o y))) (sym e)

@@ -1,4 +1,5 @@
 // The answers of calls on either of two queues, or on both.
+use super::looks::Sight;
 use super::singles::number_of;
 use elements::Given;
 use queue::Joined;
@@ -15,6 +16,7 @@ pub struct StepAnswer {
     pub refused: usize,
     pub moved: usize,
     pub handed: Given,
+    pub sight: Sight,
     pub a: State,
     pub b: State,
 }
@@ -32,6 +34,7 @@ pub fn of_joined(joined: Joined) -> StepAnswer
             refused: 0,
             moved,
             handed: Given::Nothing,
+            sight: Sight::Nothing,
             a: State::Shut(queue),
             b: State::Shut(other),
         },
@@ -44,6 +47,7 @@ pub fn of_joined(joined: Joined) -> StepAnswer
             refused: number_of(refusal),
             moved,
             handed: Given::Nothing,
+            sight: Sight::Nothing,
             a: State::Shut(queue),
             b: State::Shut(other),
         },
@@ -63,6 +67,7 @@ pub fn of_split(before: State, split: Split) -> StepAnswer
             refused: 0,
             moved,
             handed: Given::Nothing,
+            sight: Sight::Nothing,
             a: State::Shut(queue),
             b: State::Shut(target),
         },
@@ -74,6 +79,7 @@ pub fn of_split(before: State, split: Split) -> StepAnswer
             refused: number_of(refusal),
             moved,
             handed: Given::Nothing,
+            sight: Sight::Nothing,
             a: State::Shut(queue),
             b: before,
         },

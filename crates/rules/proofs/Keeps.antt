@@ -1,4 +1,5 @@
--- What each call keeps, from any queue that a sequence leaves: as many slots, a fit queue, and the balance. Assumes nothing.
+-- What each call that can change one queue keeps, from any that a sequence leaves: as many slots, a fit queue, and the
+-- balance. Assumes nothing.
 use mathlib.Core.List.{List, [], _∷_}
 use mathlib.Core.Path.{_≡_, refl, _∙_}
 use Prim.Native.Nat.{ℕ, _+_, _≤_, suc, zero}
@@ -6,9 +7,9 @@ use native.Mathlib.Omega.{arith}
 use lib.ListN.{length}
 use Rattle.rules.proofs.Calls.{lawful}
 use Rattle.rules.proofs.Count.{tally-nil}
-use Rattle.rules.proofs.Drains.{opened-good, opening-few, open-balance, GoodDrain, front-good, next-balance, idx-in, back-good, next-back-balance, last-in, close-balance, front-same, back-same, open-same}
-use Rattle.rules.proofs.Fit.{Fit, fit-shut, stands-shut, fit-drawn, stands-drawn, close-leaves, Leaves, left-held, op-leaves}
-use Rattle.rules.proofs.Held.{length-held, new-good, laid}
+use Rattle.rules.proofs.Drains.{opened-good, opening-few, open-same, open-balance, GoodDrain, front-good, front-same, next-balance, idx-in, back-good, back-same, next-back-balance, last-in, close-balance}
+use Rattle.rules.proofs.Fit.{Fit, fit-shut, stands-shut, Leaves, left-held, op-leaves, fit-drawn, stands-drawn, close-leaves}
+use Rattle.rules.proofs.Held.{new-good, laid, length-held}
 use Rattle.rules.proofs.Images.{length-elements, reading-fits}
 use Rattle.rules.proofs.Lawful.{Lawful}
 use Rattle.rules.proofs.Refusals.{Good, change-ok}
@@ -16,14 +17,14 @@ use Rattle.rules.proofs.Slots.{length-lay}
 use Rattle.rules.proofs.Tests.{by-refusal}
 use Rattle.rules.specs.Calls.{rule}
 use Rattle.rules.specs.Count.{tally, asList}
-use Rattle.rules.specs.Drains.{opened, Drain, during, fromFront, fromBack, onDrain, asOpened, closeDrain}
+use Rattle.rules.specs.Drains.{opened, Drain, asOpened, during, fromFront, fromBack, closeDrain, onDrain}
 use Rattle.rules.specs.Images.{laidOut, howMany, elementsIn}
 use Rattle.rules.specs.Makes.{madeWith, noneMade, fresh, readImage}
-use Rattle.rules.specs.Outcome.{Held, Outcome, unchanged, shut, refusal, accepted, recAfter, doRule, drawn, doOpen, handsOver, nextOf, nextBackOf, doNext, doNextBack, doClose}
+use Rattle.rules.specs.Outcome.{Held, Outcome, unchanged, shut, accepted, recAfter, refusal, doRule, drawn, doOpen, handsOver, nextOf, nextBackOf, doNext, doNextBack, doClose}
 use Rattle.rules.specs.Records.{Rec, held, newRec}
-use Rattle.rules.specs.Refusals.{onSlots, onLayout, room, mostSlots, onTaking}
+use Rattle.rules.specs.Refusals.{onSlots, onLayout, room, onTaking, mostSlots}
 use Rattle.rules.specs.Rule.{Rule, after}
-use Rattle.rules.specs.Sequences.{stands, making, madeOr, Do, doOne, op, freshly, reading, opening, next, nextBack, close}
+use Rattle.rules.specs.Sequences.{stands, making, madeOr, QueueChange, op, freshly, reading, opening, doOnQueue, DrainCall, doOnDrain, next, nextBack, close}
 use Rattle.rules.specs.Slots.{lay}
 use Rattle.rules.specs.Tests.{unless}
 
@@ -33,7 +34,7 @@ pub record Keeps (b : List ℕ) (h : Held) (o : Outcome) : Type 0 where
   pub fit : Fit (o .slots) (o .answer .held)
   pub balance : (x : ℕ) → tally x (stands b h) + tally x (o .entered) ≡ tally x (stands (o .slots) (o .answer .held)) + tally x (o .left)
 
--- refused, passed over, or Nothing to do
+-- refused, or Nothing to do
 keeps-same : (b : List ℕ) (h : Held) (n : ℕ) → Fit b h → Keeps b h (unchanged b h n)
 unfolding unchanged
 keeps-same b h n f = record { slots = refl; fit = f; balance = λ x. refl }
@@ -124,6 +125,14 @@ module _ (b : List ℕ) (r : Rec) (g : Good (length b) r) where
   unfolding doOpen
   keeps-open s e = by-refusal (onTaking (length b) r s e) (Keeps b (shut r)) (open-keeps s e) (keeps-same b (shut r) _ (fit-shut g))
 
+  -- each change of a queue
+  pub keeps-change : (k : QueueChange) → Keeps b (shut r) (doOnQueue b r k)
+  unfolding doOnQueue
+  keeps-change (op o) = keeps-op (rule o) (lawful o)
+  keeps-change freshly = keeps-fresh
+  keeps-change (reading s) = keeps-reading s
+  keeps-change (opening s e) = keeps-open s e
+
 module _ (b : List ℕ) (d : Drain) (few : length b ≤ mostSlots) (g : GoodDrain (length b) d) where
   -- the drain, now d′, has handed v over
   hand-keeps : (d′ : Drain) (v : ℕ) → GoodDrain (length b) d′ → asOpened d′ ≡ asOpened d
@@ -156,20 +165,10 @@ module _ (b : List ℕ) (d : Drain) (few : length b ≤ mostSlots) (g : GoodDrai
   keeps-drain : (o : Outcome) → Keeps b (drawn d) o → Keeps b (drawn d) (unless (onDrain (length b) d) o (unchanged b (drawn d) (onDrain (length b) d)))
   keeps-drain o k = by-refusal (onDrain (length b) d) (Keeps b (drawn d)) (λ e. k) (keeps-same b (drawn d) _ (fit-drawn few g))
 
--- each call on one queue
-pub keeps-one : (b : List ℕ) {h : Held} → Fit b h → (k : Do) → Keeps b h (doOne b h k)
-unfolding doOne doNext doNextBack doClose
-keeps-one b (fit-shut {r = r} g) (op o) = keeps-op b r g (rule o) (lawful o)
-keeps-one b (fit-shut {r = r} g) freshly = keeps-fresh b r g
-keeps-one b (fit-shut {r = r} g) (reading s) = keeps-reading b r g s
-keeps-one b (fit-shut {r = r} g) (opening s e) = keeps-open b r g s e
-keeps-one b (fit-shut g) next = keeps-same b _ 0 (fit-shut g)
-keeps-one b (fit-shut g) nextBack = keeps-same b _ 0 (fit-shut g)
-keeps-one b (fit-shut g) close = keeps-same b _ 0 (fit-shut g)
-keeps-one b (fit-drawn few g) (op o) = keeps-same b _ 0 (fit-drawn few g)
-keeps-one b (fit-drawn few g) freshly = keeps-same b _ 0 (fit-drawn few g)
-keeps-one b (fit-drawn few g) (reading s) = keeps-same b _ 0 (fit-drawn few g)
-keeps-one b (fit-drawn few g) (opening s e) = keeps-same b _ 0 (fit-drawn few g)
-keeps-one b (fit-drawn {d = d} few g) next = keeps-drain b d few g _ (next-keeps b d few g (d .remaining) refl)
-keeps-one b (fit-drawn {d = d} few g) nextBack = keeps-drain b d few g _ (next-back-keeps b d few g (d .remaining) refl)
-keeps-one b (fit-drawn {d = d} few g) close = keeps-drain b d few g _ (closed-keeps b d few g)
+-- each call of an open drain
+pub keeps-drained : (b : List ℕ) (d : Drain) → length b ≤ mostSlots → GoodDrain (length b) d → (k : DrainCall)
+    → Keeps b (drawn d) (doOnDrain b d k)
+unfolding doOnDrain doNext doNextBack doClose
+keeps-drained b d few g next = keeps-drain b d few g _ (next-keeps b d few g (d .remaining) refl)
+keeps-drained b d few g nextBack = keeps-drain b d few g _ (next-back-keeps b d few g (d .remaining) refl)
+keeps-drained b d few g close = keeps-drain b d few g _ (closed-keeps b d few g)

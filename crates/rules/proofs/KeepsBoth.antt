@@ -1,27 +1,30 @@
 -- What each call on either queue or on both keeps. Assumes nothing.
 use mathlib.Core.List.{List, []}
 use mathlib.Core.Logic.{_≢_}
-use mathlib.Core.Option.{some, none, Option}
+use mathlib.Core.Option.{Option, some, none}
 use mathlib.Core.Path.{_≡_, refl}
 use Prim.Native.Nat.{ℕ, _+_}
 use native.Mathlib.Omega.{arith}
 use lib.ListN.{length}
 use Rattle.rules.proofs.Count.{tally-append, tally-nil, tally-split}
-use Rattle.rules.proofs.Fit.{Fit, fit-shut, stands-shut, fit-drawn}
-use Rattle.rules.proofs.Keeps.{keeps-one, made-fit, left-stands, made-stands, left-fit, left-slots}
+use Rattle.rules.proofs.Fit.{Fit, fit-shut, stands-shut}
+use Rattle.rules.proofs.Keeps.{Keeps, keeps-change, left-slots, left-fit, left-stands, made-fit, made-stands, keeps-drained}
 use Rattle.rules.proofs.Made.{map-made}
 use Rattle.rules.proofs.Pairs.{append-leaves, split-leaves}
 use Rattle.rules.proofs.Refusals.{Good}
 use Rattle.rules.proofs.Slots.{length-lay}
+use Rattle.rules.proofs.Taken.{by-taken}
 use Rattle.rules.proofs.Tests.{unless-stop, by-either}
+use Rattle.rules.specs.Asks.{Sight}
 use Rattle.rules.specs.Count.{tally}
 use Rattle.rules.specs.Ends.{clear, truncate}
 use Rattle.rules.specs.Joins.{extendWith}
+use Rattle.rules.specs.Looks.{Look}
 use Rattle.rules.specs.Makes.{madeWith}
-use Rattle.rules.specs.Outcome.{Held, shut}
-use Rattle.rules.specs.Pairs.{onAppending, appended, doAppend, onSplitting, splitted, doSplit, crossing}
+use Rattle.rules.specs.Outcome.{Held, Outcome, shut, drawn}
+use Rattle.rules.specs.Pairs.{onAppending, appended, crossing, doAppend, onSplitting, splitted, doSplit}
 use Rattle.rules.specs.Records.{Rec, held}
-use Rattle.rules.specs.Sequences.{Queue, CallStep, stands, noStep, madeOr, queueOf, bothStep, appendStep, splitStep, Call, firstStep, oneStep, on, appending, splitting, Pair, step, sideA, turn, sideB, Turn, Side}
+use Rattle.rules.specs.Sequences.{Queue, CallStep, stands, stillStep, lookStep, queueOf, oneStep, QueueCall, queueStep, changing, asking, madeOr, bothStep, PairCall, pairStep, appending, splitting, comparing, Call, firstStep, takenStep, Pair, step, sideA, facing, sideB, Turn, Side}
 use Rattle.rules.specs.Tests.{unless}
 
 pub record Keeps2 (p q : Queue) (s : CallStep) : Type 0 where
@@ -32,10 +35,35 @@ pub record Keeps2 (p q : Queue) (s : CallStep) : Type 0 where
   pub balance : (x : ℕ) → tally x (stands (p .slots) (p .held)) + tally x (stands (q .slots) (q .held)) + tally x (s .entered)
       ≡ tally x (stands (s .queues .a .slots) (s .queues .a .held)) + tally x (stands (s .queues .b .slots) (s .queues .b .held)) + tally x (s .left)
 
--- passed over
-keeps-none : (p q : Queue) → Fit (p .slots) (p .held) → Fit (q .slots) (q .held) → Keeps2 p q (noStep p q)
-unfolding noStep
-keeps-none p q f f′ = record { slots-a = refl; slots-b = refl; fit-a = f; fit-b = f′; balance = λ x. refl }
+-- passed over, or a look
+keeps-still : (p q : Queue) (n : ℕ) (s : Option Sight) → Fit (p .slots) (p .held) → Fit (q .slots) (q .held)
+    → Keeps2 p q (stillStep p q n s)
+unfolding stillStep
+keeps-still p q n s f f′ = record { slots-a = refl; slots-b = refl; fit-a = f; fit-b = f′; balance = λ x. refl }
+
+keeps-look : (p q : Queue) (l : Look Sight) → Fit (p .slots) (p .held) → Fit (q .slots) (q .held)
+    → Keeps2 p q (lookStep p q l)
+unfolding lookStep
+keeps-look p q l f f′ = keeps-still p q _ _ f f′
+
+-- a call that leaves the second queue
+keeps-other : (b : List ℕ) (h : Held) (q : Queue) (o : Outcome) → Fit (q .slots) (q .held) → Keeps b h o
+    → Keeps2 (queueOf b h) q (oneStep q o)
+unfolding oneStep
+keeps-other b h q o f′ k = record {
+  slots-a = k .slots;
+  slots-b = refl;
+  fit-a = k .fit;
+  fit-b = f′;
+  balance = λ x. omega (arith, k .balance x);
+}
+
+-- each call on a queue
+keeps-queue : (b : List ℕ) (r : Rec) (q : Queue) → Good (length b) r → Fit (q .slots) (q .held) → (k : QueueCall)
+    → Keeps2 (queueOf b (shut r)) q (queueStep (queueOf b (shut r)) q r k)
+unfolding queueStep
+keeps-queue b r q g f′ (changing k) = keeps-other b _ q _ f′ (keeps-change b r g k)
+keeps-queue b r q g f′ (asking a) = keeps-look _ q _ (fit-shut g) f′
 
 made-some : (h : Held) (r : Rec) → madeOr h (some r) ≡ shut r
 unfolding madeOr
@@ -92,37 +120,33 @@ module _ (b : List ℕ) (r : Rec) (g : Good (length b) r) (b′ : List ℕ) (r�
       by-either (onSplitting (length b) r (length b′) at) (λ m. Keeps2 (queueOf b (shut r)) (queueOf b′ (shut r′)) (bothStep (shut r′) m (stands b′ (shut r′)))) (split-done at)
       (λ ne. refused-keeps _ none _ ne (made-none (shut r′)))
 
--- each call on the first queue, and on both
-keeps-append2 : (b : List ℕ) {h : Held} (b′ : List ℕ) {h′ : Held} → Fit b h → Fit b′ h′ → Keeps2 (queueOf b h) (queueOf b′ h′) (appendStep b h b′ h′)
-unfolding appendStep
-keeps-append2 b b′ (fit-shut {r = r} g) (fit-shut {r = r′} g′) = keeps-append b r g b′ r′ g′
-keeps-append2 b b′ (fit-shut g) (fit-drawn few′ g′) = keeps-none _ _ (fit-shut g) (fit-drawn few′ g′)
-keeps-append2 b b′ (fit-drawn few g) (fit-shut g′) = keeps-none _ _ (fit-drawn few g) (fit-shut g′)
-keeps-append2 b b′ (fit-drawn few g) (fit-drawn few′ g′) = keeps-none _ _ (fit-drawn few g) (fit-drawn few′ g′)
+  -- each call on both
+  keeps-pair : (k : PairCall)
+      → Keeps2 (queueOf b (shut r)) (queueOf b′ (shut r′)) (pairStep (queueOf b (shut r)) (queueOf b′ (shut r′)) r r′ k)
+  unfolding pairStep
+  keeps-pair appending = keeps-append
+  keeps-pair (splitting at) = keeps-split at
+  keeps-pair (comparing a) = keeps-look _ _ _ (fit-shut g) (fit-shut g′)
 
-keeps-split2 : (b : List ℕ) {h : Held} (b′ : List ℕ) {h′ : Held} (at : ℕ) → Fit b h → Fit b′ h′ → Keeps2 (queueOf b h) (queueOf b′ h′) (splitStep b h b′ h′ at)
-unfolding splitStep
-keeps-split2 b b′ at (fit-shut {r = r} g) (fit-shut {r = r′} g′) = keeps-split b r g b′ r′ g′ at
-keeps-split2 b b′ at (fit-shut g) (fit-drawn few′ g′) = keeps-none _ _ (fit-shut g) (fit-drawn few′ g′)
-keeps-split2 b b′ at (fit-drawn few g) (fit-shut g′) = keeps-none _ _ (fit-drawn few g) (fit-shut g′)
-keeps-split2 b b′ at (fit-drawn few g) (fit-drawn few′ g′) = keeps-none _ _ (fit-drawn few g) (fit-drawn few′ g′)
-
+-- each call on the first queue, of its drain, and on both
 pub keeps-first : (p q : Queue) → Fit (p .slots) (p .held) → Fit (q .slots) (q .held) → (k : Call) → Keeps2 p q (firstStep p q k)
-unfolding firstStep oneStep
-keeps-first p q f f′ (on k) =
-    let o = keeps-one (p .slots) f k in
-    record { slots-a = o .slots; slots-b = refl; fit-a = o .fit; fit-b = f′; balance = λ x. omega (arith, o .balance x) }
-keeps-first p q f f′ appending = keeps-append2 (p .slots) (q .slots) f f′
-keeps-first p q f f′ (splitting at) = keeps-split2 (p .slots) (q .slots) at f f′
+unfolding firstStep takenStep
+keeps-first p q f f′ k =
+    by-taken f f′ k
+    (λ h h′ t. let p′ = queueOf (p .slots) h in let q′ = queueOf (q .slots) h′ in Keeps2 p′ q′ (takenStep p′ q′ t))
+    (keeps-still p q 0 none f f′)
+    (λ r g c. keeps-queue (p .slots) r q g f′ c)
+    (λ d few g c. keeps-other (p .slots) (drawn d) q _ f′ (keeps-drained (p .slots) d few g c))
+    (λ r r′ g g′ c. keeps-pair (p .slots) r g (q .slots) r′ g′ c)
 
 keeps-a : (s : Pair) → Fit (s .a .slots) (s .a .held) → Fit (s .b .slots) (s .b .held) → (k : Call) → Keeps2 (s .a) (s .b) (step s (record { side = sideA; call = k }))
-unfolding step turn
+unfolding step facing
 keeps-a s f f′ k =
     let o = keeps-first (s .a) (s .b) f f′ k in
     record { slots-a = o .slots-a; slots-b = o .slots-b; fit-a = o .fit-a; fit-b = o .fit-b; balance = o .balance }
 
 keeps-b : (s : Pair) → Fit (s .a .slots) (s .a .held) → Fit (s .b .slots) (s .b .held) → (k : Call) → Keeps2 (s .a) (s .b) (step s (record { side = sideB; call = k }))
-unfolding step turn
+unfolding step facing
 keeps-b s f f′ k =
     let o = keeps-first (s .b) (s .a) f′ f k in
     record { slots-a = o .slots-b; slots-b = o .slots-a; fit-a = o .fit-b; fit-b = o .fit-a; balance = λ x. omega (arith, o .balance x) }

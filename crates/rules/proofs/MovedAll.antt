@@ -1,4 +1,4 @@
--- Every call's moved count is true, from any queues that a sequence leaves. Assumes nothing.
+-- The moved count of every call that can change one queue is true, from any that a sequence leaves. Assumes nothing.
 use mathlib.Core.List.{List, _++_, map, []}
 use mathlib.Core.Path.{_≡_, _∙_, sym, ap, refl}
 use Prim.Native.Nat.{ℕ, _≤_, _-_, _+_, zero, suc}
@@ -6,7 +6,7 @@ use native.Mathlib.Nat.{suc-ne-zero}
 use native.Mathlib.Omega.{arith}
 use lib.ListN.{length, take, length-take, drop, length-drop, take-append-drop}
 use lib.Seq.{drop-drop}
-use Rattle.rules.proofs.Drains.{opening-range, GoodDrain, front-same, back-same, open-same}
+use Rattle.rules.proofs.Drains.{opening-range, open-same, GoodDrain, front-same, back-same}
 use Rattle.rules.proofs.Fit.{Fit, fit-shut, fit-drawn}
 use Rattle.rules.proofs.Marks.{length-marks, length-places, strays-append, none-taken, none-dropped, strays-made}
 use Rattle.rules.proofs.Moved.{MovedTrue, same-moved, MovedAt}
@@ -19,15 +19,15 @@ use Rattle.rules.proofs.Refusals.{Good}
 use Rattle.rules.proofs.Slots.{length-lay}
 use Rattle.rules.proofs.Tests.{when-accepted}
 use Rattle.rules.specs.Calls.{Op, rule, pushBack!, pushFront!, popFront!, popBack!, popFrontIf!, popBackIf!, truncate!, truncateFront!, clear!, extend!, prepend!, extendFront!, resize!, insert!, remove!, swap!, swapRemoveFront!, swapRemoveBack!, retain!, splice! }
-use Rattle.rules.specs.Drains.{Drain, during, handable, spread, opened, fromFront, fromBack, onDrain, asOpened, closeDrain}
+use Rattle.rules.specs.Drains.{Drain, during, handable, spread, opened, fromFront, fromBack, asOpened, closeDrain, onDrain}
 use Rattle.rules.specs.Images.{elementsIn, laidOut, howMany}
 use Rattle.rules.specs.Makes.{madeWith, noneMade, fresh, readImage}
-use Rattle.rules.specs.Moves.{strays, marksFrom, placesFrom, standing, marksOf, placesOf, marksAfter, marked, Marked}
-use Rattle.rules.specs.Outcome.{Held, Outcome, refusal, shut, accepted, unchanged, drawn, doRule, doOpen, handsOver, nextOf, nextBackOf, doNext, doNextBack, doClose}
+use Rattle.rules.specs.Moves.{strays, marksFrom, placesFrom, standing, marksOf, placesOf, Marked, marked, changeAfter, drainAfter}
+use Rattle.rules.specs.Outcome.{Held, Outcome, accepted, shut, unchanged, drawn, doRule, refusal, doOpen, handsOver, nextOf, nextBackOf, doNext, doNextBack, doClose}
 use Rattle.rules.specs.Records.{Rec}
-use Rattle.rules.specs.Refusals.{mostSlots, onSlots, onLayout, room, onTaking}
+use Rattle.rules.specs.Refusals.{onTaking, onSlots, onLayout, room, mostSlots}
 use Rattle.rules.specs.Rule.{Rule}
-use Rattle.rules.specs.Sequences.{Side, Do, op, opening, making, next, nextBack, close, freshly, reading, doOne}
+use Rattle.rules.specs.Sequences.{Side, making, QueueChange, op, freshly, reading, opening, doOnQueue, DrainCall, doOnDrain, next, nextBack, close}
 use Rattle.rules.specs.Tests.{unless}
 
 pub moved-true : (o : Op) → MovedTrue (rule o)
@@ -82,25 +82,17 @@ module _ (s : Side) (b : List ℕ) where
   stands-still (fit-shut {r = r} g) = sym (same-moved s b (r .head) (r .len) (g .placed) (g .fits))
   stands-still (fit-drawn {d = d} few g) = during-stands (d .head) (spread d) (g .whole .placed) (g .whole .fits) d
 
--- ---- a call on one queue
+-- ---- a call that can change one queue
 
--- what an outcome's moved count should be
-abbrev pub Counted : Side → List ℕ → Held → Do → Outcome → Type 0
-Counted s b h k o = o .answer .moved ≡ strays s (marksAfter h k (marksOf s b h)) (placesOf (length (o .slots)) (o .answer .held))
+-- what an outcome's moved count should be, where w stands after it
+abbrev pub Counted : Side → List Marked → Outcome → Type 0
+Counted s w o = o .answer .moved ≡ strays s w (placesOf (length (o .slots)) (o .answer .held))
 
 -- an accepted call, on the queue with the record r
-accepted-counted : (s : Side) (b : List ℕ) (h : Held) (k : Do) (r : Rec) (R : Rule) → marksAfter h k (marksOf s b h) ≡ R .list Marked marked (marksFrom s (length b) b (r .head) (r .len))
-    → MovedAt R s b r → Counted s b h k (accepted b r R)
+accepted-counted : (s : Side) (b : List ℕ) (r : Rec) (R : Rule) → MovedAt R s b r
+    → Counted s (R .list Marked marked (marksFrom s (length b) b (r .head) (r .len))) (accepted b r R)
 unfolding accepted placesOf
-accepted-counted s b h k r R is m = rw (length-lay, is) m
-
-op-marks : (s : Side) (b : List ℕ) (r : Rec) (o : Op) → marksAfter (shut r) (op o) (marksOf s b (shut r)) ≡ rule o .list Marked marked (marksFrom s (length b) b (r .head) (r .len))
-unfolding marksAfter marksOf
-op-marks s b r o = refl
-
-close-marks : (s : Side) (b : List ℕ) (d : Drain) → marksAfter (drawn d) close (marksOf s b (drawn d)) ≡ closeDrain d .list Marked marked (marksFrom s (length b) b (d .head) (spread d))
-unfolding marksAfter marksOf
-close-marks s b d = refl
+accepted-counted s b r R m = rw length-lay m
 
 -- opening a drain leaves every element where it stands
 during-all : (r : Rec) (x e : ℕ) (l : List ℕ) → x ≤ e → e ≤ length l → during l (opened r x e) ≡ l
@@ -109,38 +101,65 @@ during-all r x e l le le′ =
     rw (← drop-drop (e - x) x l) (ap (λ (m : List ℕ). take x l ++ m) (take-append-drop (e - x) (drop x l)) ∙ take-append-drop x l)
 
 opened-counted : (s : Side) (b : List ℕ) (r : Rec) → Good (length b) r → (x e : ℕ) → onTaking (length b) r x e ≡ 0
-    → Counted s b (shut r) (opening x e) (unchanged b (drawn (opened r x e)) 0)
-unfolding unchanged marksAfter marksOf placesOf opened during
+    → Counted s (marksOf s b (shut r)) (unchanged b (drawn (opened r x e)) 0)
+unfolding unchanged marksOf placesOf opened during
 opened-counted s b r g x e z =
     let o = opening-range (length b) r x e z in
     rw (ap (λ (k : Rec). k .len) (open-same (length b) r x e z), during-all r x e (placesFrom (length b) (r .head) (r .len)) (o .0) (rw length-places (o .1))) (same-moved s b (r .head) (r .len) (g .placed) (g .fits))
 
 module _ (s : Side) (b : List ℕ) where
   -- nothing was done
-  passed-over : (h : Held) (k : Do) → marksAfter h k (marksOf s b h) ≡ standing h (marksOf s b h) → Fit b h → Counted s b h k (unchanged b h 0)
+  same-counted : {h : Held} → Fit b h → Counted s (standing h (marksOf s b h)) (unchanged b h 0)
   unfolding unchanged
-  passed-over h k e f = sym (rw e (stands-still s b f))
+  same-counted f = sym (stands-still s b f)
 
   -- a call that was accepted, of the two outcomes that it may have
-  counted : (h : Held) (k : Do) (n : ℕ) (o : Outcome) → unless n o (unchanged b h n) .answer .refused ≡ 0 → (n ≡ 0 → Counted s b h k o) → Counted s b h k (unless n o (unchanged b h n))
+  counted : (h : Held) (w : List Marked) (n : ℕ) (o : Outcome) → unless n o (unchanged b h n) .answer .refused ≡ 0
+      → (n ≡ 0 → Counted s w o) → Counted s w (unless n o (unchanged b h n))
   unfolding unchanged
-  counted h k n o z f = when-accepted n o (unchanged b h n) (λ x. x .answer .refused) refl z (Counted s b h k) f
+  counted h w n o z f = when-accepted n o (unchanged b h n) (λ x. x .answer .refused) refl z (Counted s w) f
 
   module _ (r : Rec) (g : Good (length b) r) where
-    op-counted : (o : Op) → doRule b r (rule o) .answer .refused ≡ 0 → Counted s b (shut r) (op o) (doRule b r (rule o))
-    unfolding doRule
-    op-counted o z = counted (shut r) (op o) (refusal (length b) r (rule o)) (accepted b r (rule o)) z (λ e. accepted-counted s b (shut r) (op o) r (rule o) (op-marks s b r o) (moved-true o s b r e))
+    op-counted : (o : Op) → doRule b r (rule o) .answer .refused ≡ 0
+        → Counted s (rule o .list Marked marked (marksOf s b (shut r))) (doRule b r (rule o))
+    unfolding doRule marksOf
+    op-counted o z =
+        counted (shut r) _ (refusal (length b) r (rule o)) (accepted b r (rule o)) z
+        (λ e. accepted-counted s b r (rule o) (moved-true o s b r e))
 
-    opening-counted : (x e : ℕ) → doOpen b r x e .answer .refused ≡ 0 → Counted s b (shut r) (opening x e) (doOpen b r x e)
+    opening-counted : (x e : ℕ) → doOpen b r x e .answer .refused ≡ 0
+        → Counted s (marksOf s b (shut r)) (doOpen b r x e)
     unfolding doOpen
-    opening-counted x e z = counted (shut r) (opening x e) (onTaking (length b) r x e) (unchanged b (drawn (opened r x e)) 0) z (opened-counted s b r g x e)
+    opening-counted x e z =
+        counted (shut r) _ (onTaking (length b) r x e) (unchanged b (drawn (opened r x e)) 0) z
+        (opened-counted s b r g x e)
 
     -- a record is made over elements from outside: none stood before
-    making-counted : (k : Do) (l : List ℕ) (n : ℕ) → marksAfter (shut r) k (marksOf s b (shut r)) ≡ map (marked .made) l
-        → making b (shut r) (unless n (madeWith b l) (noneMade b n)) .answer .refused ≡ 0 → Counted s b (shut r) k (making b (shut r) (unless n (madeWith b l) (noneMade b n)))
+    making-counted : (l : List ℕ) (n : ℕ)
+        → making b (shut r) (unless n (madeWith b l) (noneMade b n)) .answer .refused ≡ 0
+        → Counted s (map (marked .made) l) (making b (shut r) (unless n (madeWith b l) (noneMade b n)))
     unfolding making noneMade madeWith unless
-    making-counted k l zero e z = sym (rw e (strays-made s l _))
-    making-counted k l (suc n) e z = absurd (suc-ne-zero n z)
+    making-counted l zero z = sym (strays-made s l _)
+    making-counted l (suc n) z = absurd (suc-ne-zero n z)
+
+    fresh-counted : making b (shut r) (fresh b) .answer .refused ≡ 0 → Counted s [] (making b (shut r) (fresh b))
+    unfolding fresh
+    fresh-counted z = making-counted [] (onSlots (length b) 0) z
+
+    reading-counted : (x : List ℕ) → making b (shut r) (readImage b x) .answer .refused ≡ 0
+        → Counted s (map (marked .made) (elementsIn x)) (making b (shut r) (readImage b x))
+    unfolding readImage
+    reading-counted x z =
+        making-counted (elementsIn x) (onSlots (length b) (onLayout (laidOut x) (room (length b) (howMany x)))) z
+
+    -- each change of a queue
+    pub change-counted : (k : QueueChange) → doOnQueue b r k .answer .refused ≡ 0
+        → Counted s (changeAfter k (marksOf s b (shut r))) (doOnQueue b r k)
+    unfolding doOnQueue changeAfter
+    change-counted (op o) z = op-counted o z
+    change-counted freshly z = fresh-counted z
+    change-counted (reading x) z = reading-counted x z
+    change-counted (opening x e) z = opening-counted x e z
 
 -- what handing over leaves of a drain's record
 front-none : (d : Drain) → d .remaining ≡ 0 → (fromFront d .remaining ≡ 0) × (fromFront d .start ≡ d .start) × (fromFront d .drained ≡ d .drained)
@@ -153,70 +172,52 @@ back-none d z = (omega arith, refl, refl)
 
 module _ (s : Side) (b : List ℕ) (d : Drain) (few : length b ≤ mostSlots) (g : GoodDrain (length b) d) where
   -- the drain, now d′, in the same list
-  handing-counted : (k : Do) (d′ : Drain) (v : ℕ) → marksAfter (drawn d) k (marksOf s b (drawn d)) ≡ during (marksFrom s (length b) b (d .head) (spread d)) d′
-      → asOpened d′ ≡ asOpened d → Counted s b (drawn d) k (handsOver b d′ v)
-  unfolding handsOver placesOf during handable
-  handing-counted k d′ v e same = sym (rw (e, ap (λ (k : Rec). k .len) same, ap (λ (k : Rec). k .head) same) (during-stands s b (d .head) (spread d) (g .whole .placed) (g .whole .fits) d′))
+  handing-counted : (d′ : Drain) (v : ℕ) → asOpened d′ ≡ asOpened d
+      → Counted s (during (marksOf s b (drawn d)) d′) (handsOver b d′ v)
+  unfolding handsOver marksOf placesOf during handable
+  handing-counted d′ v same =
+      sym (rw (ap (λ (k : Rec). k .len) same, ap (λ (k : Rec). k .head) same)
+      (during-stands s b (d .head) (spread d) (g .whole .placed) (g .whole .fits) d′))
 
   -- where none remains, none can be handed over
-  none-remains : (d′ : Drain) → d .remaining ≡ 0 → d′ .remaining ≡ 0 → d′ .start ≡ d .start → d′ .drained ≡ d .drained → (w : List Marked) → during w d′ ≡ during w d
+  none-remains : (d′ : Drain) → d .remaining ≡ 0
+      → (d′ .remaining ≡ 0) × (d′ .start ≡ d .start) × (d′ .drained ≡ d .drained)
+      → (w : List Marked) → during w d′ ≡ during w d
   unfolding during handable
-  none-remains d′ z z′ same-start same-drained w = rw (z, z′, same-start, same-drained)
+  none-remains d′ z same w = rw (z, same .0, same .1, same .2)
 
-  next-counted : (n : ℕ) → d .remaining ≡ n → Counted s b (drawn d) next (nextOf b d n)
-  unfolding nextOf marksAfter marksOf standing during
-  next-counted zero e = passed-over s b (drawn d) next (let k = front-none d e in none-remains (fromFront d) e (k .0) (k .1) (k .2) _) (fit-drawn few g)
-  next-counted (suc n) e = handing-counted next (fromFront d) _ refl (front-same d)
+  none-counted : (d′ : Drain) → d .remaining ≡ 0
+      → (d′ .remaining ≡ 0) × (d′ .start ≡ d .start) × (d′ .drained ≡ d .drained)
+      → Counted s (during (marksOf s b (drawn d)) d′) (unchanged b (drawn d) 0)
+  unfolding standing
+  none-counted d′ z same = rw (none-remains d′ z same (marksOf s b (drawn d))) (same-counted s b (fit-drawn few g))
 
-  next-back-counted : (n : ℕ) → d .remaining ≡ n → Counted s b (drawn d) nextBack (nextBackOf b d n)
-  unfolding nextBackOf marksAfter marksOf standing during
-  next-back-counted zero e = passed-over s b (drawn d) nextBack (let k = back-none d e in none-remains (fromBack d) e (k .0) (k .1) (k .2) _) (fit-drawn few g)
-  next-back-counted (suc n) e = handing-counted nextBack (fromBack d) _ refl (back-same d)
+  next-counted : (n : ℕ) → d .remaining ≡ n → Counted s (during (marksOf s b (drawn d)) (fromFront d)) (nextOf b d n)
+  unfolding nextOf
+  next-counted zero e = none-counted (fromFront d) e (front-none d e)
+  next-counted (suc n) e = handing-counted (fromFront d) _ (front-same d)
 
-  closed-counted : Counted s b (drawn d) close (accepted b (asOpened d) (closeDrain d))
-  closed-counted = accepted-counted s b (drawn d) close (asOpened d) (closeDrain d) (close-marks s b d) (close-moved s b d g)
+  next-back-counted : (n : ℕ) → d .remaining ≡ n
+      → Counted s (during (marksOf s b (drawn d)) (fromBack d)) (nextBackOf b d n)
+  unfolding nextBackOf
+  next-back-counted zero e = none-counted (fromBack d) e (back-none d e)
+  next-back-counted (suc n) e = handing-counted (fromBack d) _ (back-same d)
+
+  closed-counted : let R = closeDrain d in
+      Counted s (R .list Marked marked (marksOf s b (drawn d))) (accepted b (asOpened d) R)
+  unfolding marksOf
+  closed-counted = accepted-counted s b (asOpened d) (closeDrain d) (close-moved s b d g)
 
   -- as the drain's record says
-  drain-counted : (k : Do) (o : Outcome) → Counted s b (drawn d) k o → unless (onDrain (length b) d) o (unchanged b (drawn d) (onDrain (length b) d)) .answer .refused ≡ 0
-      → Counted s b (drawn d) k (unless (onDrain (length b) d) o (unchanged b (drawn d) (onDrain (length b) d)))
-  drain-counted k o c z = counted s b (drawn d) k (onDrain (length b) d) o z (λ e. c)
+  asked-counted : (w : List Marked) (o : Outcome) → Counted s w o
+      → unless (onDrain (length b) d) o (unchanged b (drawn d) (onDrain (length b) d)) .answer .refused ≡ 0
+      → Counted s w (unless (onDrain (length b) d) o (unchanged b (drawn d) (onDrain (length b) d)))
+  asked-counted w o c z = counted s b (drawn d) w (onDrain (length b) d) o z (λ e. c)
 
--- the marks after a call that was passed over, or that makes a record
-fresh-marks : (s : Side) (b : List ℕ) (r : Rec) → marksAfter (shut r) freshly (marksOf s b (shut r)) ≡ map (marked .made) []
-unfolding marksAfter
-fresh-marks s b r = refl
-
-read-marks : (s : Side) (b : List ℕ) (r : Rec) (x : List ℕ) → marksAfter (shut r) (reading x) (marksOf s b (shut r)) ≡ map (marked .made) (elementsIn x)
-unfolding marksAfter
-read-marks s b r x = refl
-
-shut-marks : (s : Side) (b : List ℕ) (r : Rec)
-    → let w = marksOf s b (shut r) in
-    (marksAfter (shut r) next w ≡ standing (shut r) w) × (marksAfter (shut r) nextBack w ≡ standing (shut r) w) × (marksAfter (shut r) close w ≡ standing (shut r) w)
-unfolding marksAfter standing
-shut-marks s b r = (refl, refl, refl)
-
-drawn-marks : (s : Side) (b : List ℕ) (d : Drain)
-    → let w = marksOf s b (drawn d) in
-    ((o : Op) → marksAfter (drawn d) (op o) w ≡ standing (drawn d) w) × (marksAfter (drawn d) freshly w ≡ standing (drawn d) w)
-    × ((x : List ℕ) → marksAfter (drawn d) (reading x) w ≡ standing (drawn d) w) × ((x e : ℕ) → marksAfter (drawn d) (opening x e) w ≡ standing (drawn d) w)
-unfolding marksAfter standing
-drawn-marks s b d = ((λ o. refl), refl, (λ x. refl), (λ x e. refl))
-
--- each call on one queue
-pub one-counted : (s : Side) (b : List ℕ) {h : Held} → Fit b h → (k : Do) → doOne b h k .answer .refused ≡ 0 → Counted s b h k (doOne b h k)
-unfolding doOne doNext doNextBack doClose fresh readImage
-one-counted s b (fit-shut {r = r} g) (op o) z = op-counted s b r g o z
-one-counted s b (fit-shut {r = r} g) freshly z = making-counted s b r g freshly [] (onSlots (length b) 0) (fresh-marks s b r) z
-one-counted s b (fit-shut {r = r} g) (reading x) z = making-counted s b r g (reading x) (elementsIn x) (onSlots (length b) (onLayout (laidOut x) (room (length b) (howMany x)))) (read-marks s b r x) z
-one-counted s b (fit-shut {r = r} g) (opening x e) z = opening-counted s b r g x e z
-one-counted s b (fit-shut {r = r} g) next z = passed-over s b (shut r) next (shut-marks s b r .0) (fit-shut g)
-one-counted s b (fit-shut {r = r} g) nextBack z = passed-over s b (shut r) nextBack (shut-marks s b r .1) (fit-shut g)
-one-counted s b (fit-shut {r = r} g) close z = passed-over s b (shut r) close (shut-marks s b r .2) (fit-shut g)
-one-counted s b (fit-drawn {d = d} few g) (op o) z = passed-over s b (drawn d) (op o) (drawn-marks s b d .0 o) (fit-drawn few g)
-one-counted s b (fit-drawn {d = d} few g) freshly z = passed-over s b (drawn d) freshly (drawn-marks s b d .1) (fit-drawn few g)
-one-counted s b (fit-drawn {d = d} few g) (reading x) z = passed-over s b (drawn d) (reading x) (drawn-marks s b d .2 x) (fit-drawn few g)
-one-counted s b (fit-drawn {d = d} few g) (opening x e) z = passed-over s b (drawn d) (opening x e) (drawn-marks s b d .3 x e) (fit-drawn few g)
-one-counted s b (fit-drawn {d = d} few g) next z = drain-counted s b d few g next _ (next-counted s b d few g (d .remaining) refl) z
-one-counted s b (fit-drawn {d = d} few g) nextBack z = drain-counted s b d few g nextBack _ (next-back-counted s b d few g (d .remaining) refl) z
-one-counted s b (fit-drawn {d = d} few g) close z = drain-counted s b d few g close _ (closed-counted s b d few g) z
+  -- each call of an open drain
+  pub drain-counted : (k : DrainCall) → doOnDrain b d k .answer .refused ≡ 0
+      → Counted s (drainAfter d k (marksOf s b (drawn d))) (doOnDrain b d k)
+  unfolding doOnDrain drainAfter doNext doNextBack doClose
+  drain-counted next z = asked-counted _ _ (next-counted (d .remaining) refl) z
+  drain-counted nextBack z = asked-counted _ _ (next-back-counted (d .remaining) refl) z
+  drain-counted close z = asked-counted _ _ closed-counted z

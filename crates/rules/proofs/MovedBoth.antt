@@ -5,25 +5,28 @@ use mathlib.Core.Option.{Option, some, none}
 use mathlib.Core.Path.{_≡_, _∙_, sym, refl}
 use Prim.Native.Nat.{ℕ, _≤_, _-_, _<_, _+_, min}
 use native.Mathlib.Omega.{arith}
-use lib.ListN.{length, drop, drop-of-length-le, length-drop}
-use Rattle.rules.proofs.Fit.{Fit, fit-shut, fit-drawn}
+use lib.ListN.{length, drop, drop-of-length-le, take, length-drop}
+use Rattle.rules.proofs.Fit.{Fit, fit-shut}
 use Rattle.rules.proofs.Held.{length-held}
 use Rattle.rules.proofs.Marks.{strays-crossed, length-marks, origin-at, length-places, places-add, strays-append, marks-none, strays-none, marks-drop}
 use Rattle.rules.proofs.Moved.{same-moved, take-moved}
-use Rattle.rules.proofs.MovedAll.{stands-still, one-counted}
+use Rattle.rules.proofs.MovedAll.{stands-still, change-counted, drain-counted}
 use Rattle.rules.proofs.Pairs.{append-ok, split-ok}
 use Rattle.rules.proofs.Places.{place-good}
+use Rattle.rules.proofs.Refusals.{Good}
 use Rattle.rules.proofs.Slots.{length-lay}
+use Rattle.rules.proofs.Taken.{by-taken}
 use Rattle.rules.proofs.Tests.{lt-or-ge, when-accepted}
+use Rattle.rules.specs.Asks.{Sight}
 use Rattle.rules.specs.Ends.{clear, truncate}
 use Rattle.rules.specs.Joins.{extendWith}
 use Rattle.rules.specs.Makes.{madeWith}
-use Rattle.rules.specs.Moves.{elsewhere, slotOf, strays, marksFrom, bothAfter, marksOf, placesOf, placesFrom, marksBoth, standing}
-use Rattle.rules.specs.Outcome.{shut, Held, accepted, recAfter}
-use Rattle.rules.specs.Pairs.{onAppending, appended, onSplitting, splitted, Paired, doAppend, doSplit, crossing}
+use Rattle.rules.specs.Moves.{Marked, elsewhere, slotOf, strays, marksFrom, Marks, placesOf, marksBoth, standing, marksOf, queueAfter, placesFrom, pairAfter, bothAfter, takenAfter}
+use Rattle.rules.specs.Outcome.{shut, accepted, recAfter}
+use Rattle.rules.specs.Pairs.{onAppending, appended, crossing, onSplitting, splitted, Paired, doAppend, doSplit}
 use Rattle.rules.specs.Places.{place}
 use Rattle.rules.specs.Records.{Rec, stepped, newRec}
-use Rattle.rules.specs.Sequences.{Side, sideA, sideB, Queue, Call, CallStep, bothStep, queueOf, appending, madeOr, splitting, stands, noStep, appendStep, splitStep, firstStep, oneStep, on}
+use Rattle.rules.specs.Sequences.{Side, sideA, sideB, CallStep, Queue, stillStep, QueueCall, queueStep, queueOf, oneStep, lookStep, changing, asking, bothStep, madeOr, stands, PairCall, pairStep, appending, splitting, comparing, Call, firstStep, takenStep}
 use Rattle.rules.specs.Tests.{unless}
 
 -- every element that stood in the other queue has moved
@@ -42,11 +45,30 @@ a-in-b : (s p : ℕ) → elsewhere sideB (slotOf sideA s) p ≡ 1
 unfolding elsewhere
 a-in-b s p = refl
 
--- what a step's moved count should be
-abbrev pub CountedBoth : Queue → Queue → Call → CallStep → Type 0
-CountedBoth p q k o =
-    let m = bothAfter (p .held) (q .held) k (marksOf sideA (p .slots) (p .held)) (marksOf sideB (q .slots) (q .held)) in
+-- what a step's moved count should be, where m stands after it
+abbrev pub CountedBoth : Marks → CallStep → Type 0
+CountedBoth m o =
     o .moved ≡ strays sideA (m .ours) (placesOf (length (o .queues .a .slots)) (o .queues .a .held)) + strays sideB (m .theirs) (placesOf (length (o .queues .b .slots)) (o .queues .b .held))
+
+-- what stands in a queue before a call, marked
+abbrev before : Side → Queue → List Marked
+before d q = standing (q .held) (marksOf d (q .slots) (q .held))
+
+-- passed over, or a look: none moves
+still-counted : (p q : Queue) (n : ℕ) (s : Option Sight) → Fit (p .slots) (p .held) → Fit (q .slots) (q .held)
+    → CountedBoth (marksBoth (before sideA p) (before sideB q)) (stillStep p q n s)
+unfolding stillStep
+still-counted p q n s f f′ = omega (arith, stands-still sideA (p .slots) f, stands-still sideB (q .slots) f′)
+
+-- each call on a queue
+queue-counted : (b : List ℕ) (r : Rec) (q : Queue) → Good (length b) r → Fit (q .slots) (q .held) → (k : QueueCall)
+    → queueStep (queueOf b (shut r)) q r k .refused ≡ 0
+    → CountedBoth (marksBoth (queueAfter k (marksOf sideA b (shut r))) (before sideB q))
+    (queueStep (queueOf b (shut r)) q r k)
+unfolding queueStep queueAfter oneStep lookStep standing
+queue-counted b r q g f′ (changing k) z =
+    omega (arith, change-counted sideA b r g k z, stands-still sideB (q .slots) f′)
+queue-counted b r q g f′ (asking a) z = still-counted (queueOf b (shut r)) q _ _ (fit-shut g) f′
 
 -- ours stay, and theirs come behind
 joined : (b : List ℕ) (h n : ℕ) (b′ : List ℕ) (h′ n′ : ℕ) → h ≤ length b - 1 → n + n′ ≤ length b → h′ ≤ length b′ - 1 → n′ ≤ length b′
@@ -87,15 +109,17 @@ step-refused b r b′ r′ n x gone = refl
 
 module _ (b : List ℕ) (r : Rec) (b′ : List ℕ) (r′ : Rec) where
   append-counted : onAppending (length b) r (length b′) r′ ≡ 0
-      → CountedBoth (queueOf b (shut r)) (queueOf b′ (shut r′)) appending (bothStep (shut r′) (appended b r b′ r′) [])
-  unfolding bothStep appended crossing accepted recAfter extendWith clear stepped madeOr bothAfter marksOf placesOf
+      → CountedBoth (marksBoth (marksOf sideA b (shut r) ++ marksOf sideB b′ (shut r′)) [])
+      (bothStep (shut r′) (appended b r b′ r′) [])
+  unfolding bothStep appended crossing accepted recAfter extendWith clear stepped madeOr marksOf placesOf
   append-counted z =
       let o = append-ok (length b) r (length b′) r′ z in
       rw (length-lay, length-held, strays-none) (omega (arith, joined b (r .head) (r .len) b′ (r′ .head) (r′ .len) (o .0 .placed) (o .2) (o .1 .placed) (o .1 .fits)))
 
   split-counted : (i : ℕ) → onSplitting (length b) r (length b′) i ≡ 0
-      → CountedBoth (queueOf b (shut r)) (queueOf b′ (shut r′)) (splitting i) (bothStep (shut r′) (splitted b r b′ i) (stands b′ (shut r′)))
-  unfolding bothStep splitted crossing accepted recAfter truncate madeWith stepped newRec madeOr bothAfter marksOf placesOf
+      → CountedBoth (marksBoth (take i (marksOf sideA b (shut r))) (drop i (marksOf sideA b (shut r))))
+      (bothStep (shut r′) (splitted b r b′ i) (stands b′ (shut r′)))
+  unfolding bothStep splitted crossing accepted recAfter truncate madeWith stepped newRec madeOr marksOf placesOf
   split-counted i z =
       let o = split-ok (length b) r (length b′) i z in
       let g = o .0 in
@@ -107,40 +131,39 @@ module _ (b : List ℕ) (r : Rec) (b′ : List ℕ) (r′ : Rec) where
       ))
 
   -- an accepted call, of the two outcomes that it may have
-  both-counted : (k : Call) (n : ℕ) (x : Option Rec) (m : Paired) (gone : List ℕ)
+  both-counted : (w : Marks) (n : ℕ) (x : Option Rec) (m : Paired) (gone : List ℕ)
       → let no : Paired = record { pairing = record { refused = n; moved = 0; rec = r; other = x }; slots = b; slots′ = b′ } in
-      bothStep (shut r′) (unless n m no) gone .refused ≡ 0 → (n ≡ 0 → CountedBoth (queueOf b (shut r)) (queueOf b′ (shut r′)) k (bothStep (shut r′) m gone))
-      → CountedBoth (queueOf b (shut r)) (queueOf b′ (shut r′)) k (bothStep (shut r′) (unless n m no) gone)
-  both-counted k n x m gone z f =
-      when-accepted n m _ (λ (y : Paired). bothStep (shut r′) y gone .refused) (step-refused b r b′ r′ n x gone) z (λ (y : Paired). CountedBoth (queueOf b (shut r)) (queueOf b′ (shut r′)) k (bothStep (shut r′) y gone)) f
+      bothStep (shut r′) (unless n m no) gone .refused ≡ 0 → (n ≡ 0 → CountedBoth w (bothStep (shut r′) m gone))
+      → CountedBoth w (bothStep (shut r′) (unless n m no) gone)
+  both-counted w n x m gone z f =
+      when-accepted n m _ (λ (y : Paired). bothStep (shut r′) y gone .refused) (step-refused b r b′ r′ n x gone) z
+      (λ (y : Paired). CountedBoth w (bothStep (shut r′) y gone)) f
 
--- passed over: none moves
-none-counted : (p q : Queue) (k : Call) → Fit (p .slots) (p .held) → Fit (q .slots) (q .held)
-    → bothAfter (p .held) (q .held) k (marksOf sideA (p .slots) (p .held)) (marksOf sideB (q .slots) (q .held))
-    ≡ marksBoth (standing (p .held) (marksOf sideA (p .slots) (p .held))) (standing (q .held) (marksOf sideB (q .slots) (q .held))) → CountedBoth p q k (noStep p q)
-unfolding noStep
-none-counted p q k f f′ e = rw e (omega (arith, stands-still sideA (p .slots) f, stands-still sideB (q .slots) f′))
+  -- each call on both
+  pair-counted : Good (length b) r → Good (length b′) r′ → (k : PairCall)
+      → pairStep (queueOf b (shut r)) (queueOf b′ (shut r′)) r r′ k .refused ≡ 0
+      → CountedBoth (pairAfter k (marksOf sideA b (shut r)) (marksOf sideB b′ (shut r′)))
+      (pairStep (queueOf b (shut r)) (queueOf b′ (shut r′)) r r′ k)
+  unfolding pairStep pairAfter doAppend doSplit lookStep standing
+  pair-counted g g′ appending z =
+      both-counted _ (onAppending (length b) r (length b′) r′) (some r′) (appended b r b′ r′) [] z append-counted
+  pair-counted g g′ (splitting i) z =
+      both-counted _ (onSplitting (length b) r (length b′) i) none (splitted b r b′ i) (stands b′ (shut r′)) z
+      (split-counted i)
+  pair-counted g g′ (comparing a) z =
+      still-counted (queueOf b (shut r)) (queueOf b′ (shut r′)) _ _ (fit-shut g) (fit-shut g′)
 
-append-counted2 : (b : List ℕ) {h : Held} (b′ : List ℕ) {h′ : Held} → Fit b h → Fit b′ h′ → appendStep b h b′ h′ .refused ≡ 0
-    → CountedBoth (queueOf b h) (queueOf b′ h′) appending (appendStep b h b′ h′)
-unfolding appendStep doAppend bothAfter standing
-append-counted2 b b′ (fit-shut {r = r} g) (fit-shut {r = r′} g′) z = both-counted b r b′ r′ appending (onAppending (length b) r (length b′) r′) (some r′) (appended b r b′ r′) [] z (append-counted b r b′ r′)
-append-counted2 b b′ (fit-shut g) (fit-drawn few′ g′) z = none-counted _ _ appending (fit-shut g) (fit-drawn few′ g′) refl
-append-counted2 b b′ (fit-drawn few g) (fit-shut g′) z = none-counted _ _ appending (fit-drawn few g) (fit-shut g′) refl
-append-counted2 b b′ (fit-drawn few g) (fit-drawn few′ g′) z = none-counted _ _ appending (fit-drawn few g) (fit-drawn few′ g′) refl
-
-split-counted2 : (b : List ℕ) {h : Held} (b′ : List ℕ) {h′ : Held} (i : ℕ) → Fit b h → Fit b′ h′ → splitStep b h b′ h′ i .refused ≡ 0
-    → CountedBoth (queueOf b h) (queueOf b′ h′) (splitting i) (splitStep b h b′ h′ i)
-unfolding splitStep doSplit bothAfter standing
-split-counted2 b b′ i (fit-shut {r = r} g) (fit-shut {r = r′} g′) z =
-    both-counted b r b′ r′ (splitting i) (onSplitting (length b) r (length b′) i) none (splitted b r b′ i) (stands b′ (shut r′)) z (split-counted b r b′ r′ i)
-split-counted2 b b′ i (fit-shut g) (fit-drawn few′ g′) z = none-counted _ _ (splitting i) (fit-shut g) (fit-drawn few′ g′) refl
-split-counted2 b b′ i (fit-drawn few g) (fit-shut g′) z = none-counted _ _ (splitting i) (fit-drawn few g) (fit-shut g′) refl
-split-counted2 b b′ i (fit-drawn few g) (fit-drawn few′ g′) z = none-counted _ _ (splitting i) (fit-drawn few g) (fit-drawn few′ g′) refl
-
--- each call on the first queue, and on both
-pub first-counted : (p q : Queue) → Fit (p .slots) (p .held) → Fit (q .slots) (q .held) → (k : Call) → firstStep p q k .refused ≡ 0 → CountedBoth p q k (firstStep p q k)
-unfolding firstStep oneStep bothAfter
-first-counted p q f f′ (on k) z = omega (arith, one-counted sideA (p .slots) f k z, stands-still sideB (q .slots) f′)
-first-counted p q f f′ appending z = append-counted2 (p .slots) (q .slots) f f′ z
-first-counted p q f f′ (splitting i) z = split-counted2 (p .slots) (q .slots) i f f′ z
+-- each call on the first queue, of its drain, and on both
+pub first-counted : (p q : Queue) → Fit (p .slots) (p .held) → Fit (q .slots) (q .held) → (k : Call)
+    → firstStep p q k .refused ≡ 0
+    → let m = bothAfter (p .held) (q .held) k (marksOf sideA (p .slots) (p .held)) (marksOf sideB (q .slots) (q .held)) in
+    CountedBoth m (firstStep p q k)
+unfolding firstStep takenStep bothAfter takenAfter oneStep
+first-counted p q f f′ k =
+    by-taken f f′ k
+    (λ h h′ t. let o = takenStep (queueOf (p .slots) h) (queueOf (q .slots) h′) t in
+    o .refused ≡ 0 → CountedBoth (takenAfter h h′ (marksOf sideA (p .slots) h) (marksOf sideB (q .slots) h′) t) o)
+    (λ z. still-counted p q 0 none f f′)
+    (λ r g c z. queue-counted (p .slots) r q g f′ c z)
+    (λ d few g c z. omega (arith, drain-counted sideA (p .slots) d few g c z, stands-still sideB (q .slots) f′))
+    (λ r r′ g g′ c z. pair-counted (p .slots) r (q .slots) r′ g g′ c z)

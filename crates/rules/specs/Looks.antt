@@ -1,7 +1,7 @@
 -- The calls that only look at a queue, or at two. Assumes nothing.
 use mathlib.Core.Bool.{Bool, false, _||_, true, _&&_}
 use mathlib.Core.List.{List, [], _∷_}
-use mathlib.Core.Option.{Option}
+use mathlib.Core.Option.{Option, none, some}
 use Prim.Native.Nat.{ℕ, _-_}
 use lib.Dec.{eqb, ltb}
 use lib.ListN.{length, getElem?}
@@ -17,6 +17,20 @@ pub data Look (A : Type 0) : Type 0 where
 -- a where nothing is refused
 unfoldable pub looked : {A : Type 0} → ℕ → A → Look A
 looked n a = unless n (sees a) (refuses n)
+
+-- the same, what was seen being told by f
+unfoldable pub seenAs : {A B : Type 0} → (A → B) → Look A → Look B
+seenAs f (refuses n) = refuses n
+seenAs f (sees a) = sees (f a)
+
+-- of what a look gives: the refusal number, 0 if there is none; and what was seen, if it was not refused
+unfoldable pub refusedBy : {A : Type 0} → Look A → ℕ
+refusedBy (refuses n) = n
+refusedBy (sees a) = 0
+
+unfoldable pub seenBy : {A : Type 0} → Look A → Option A
+seenBy (refuses n) = none
+seenBy (sees a) = some a
 
 -- what `f` sees in the list of a queue
 unfoldable pub lookAt : {A : Type 0} → List ℕ → Rec → (List ℕ → A) → Look A

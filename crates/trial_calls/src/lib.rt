@@ -15,12 +15,14 @@ use trial_state::said::say_element;
 use trial_state::said::say_nothing;
 use trial_text::rest;
 use turns::Call;
-use turns::DrainStep;
+use turns::DrainCall;
 use turns::Edit;
 use turns::Join;
+use turns::PairCall;
+use turns::QueueCall;
+use turns::QueueChange;
 use turns::Removal;
 use turns::Side;
-use turns::Single;
 use vec_deque::Test;
 
 // The calls that hand nothing over.
@@ -63,34 +65,34 @@ fn removal_of(number: usize, i: usize, test: Test) -> Removal {
 }
 
 // The calls of an open drain.
-fn step_of(number: usize) -> DrainStep {
+fn step_of(number: usize) -> DrainCall {
     match number {
-        35 => DrainStep::Next,
-        36 => DrainStep::NextBack,
-        _ => DrainStep::Close,
+        35 => DrainCall::Next,
+        36 => DrainCall::NextBack,
+        _ => DrainCall::Close,
     }
 }
 
-// The calls on one queue.
-fn single_of(number: usize, operands: Operands) -> Single {
+// The changes of one queue.
+fn change_of(number: usize, operands: Operands) -> QueueChange {
     let test = operands.test;
     match number {
-        0 => Single::Fresh,
-        3..=6 | 18 | 20 | 21 => Single::Removing(removal_of(number, operands.first, test)),
-        13..=15 | 33 => Single::Joining(join_of(number, operands.first, operands.second)),
-        34 => Single::Drain(operands.first, operands.second),
-        35..=37 => Single::Draining(step_of(number)),
-        41 => Single::ReadImage,
-        _ => Single::Editing(edit_of(number, operands)),
+        0 => QueueChange::Fresh,
+        3..=6 | 18 | 20 | 21 => QueueChange::Removing(removal_of(number, operands.first, test)),
+        13..=15 | 33 => QueueChange::Joining(join_of(number, operands.first, operands.second)),
+        34 => QueueChange::Drain(operands.first, operands.second),
+        41 => QueueChange::ReadImage,
+        _ => QueueChange::Editing(edit_of(number, operands)),
     }
 }
 
 // The call of a line.
 fn call_of(number: usize, operands: Operands) -> Call {
     match number {
-        22 => Call::Append,
-        23 => Call::SplitOff(operands.first),
-        _ => Call::On(single_of(number, operands)),
+        22 => Call::OfBoth(PairCall::Append),
+        23 => Call::OfBoth(PairCall::SplitOff(operands.first)),
+        35..=37 => Call::OfDrain(step_of(number)),
+        _ => Call::OfQueue(QueueCall::Changing(change_of(number, operands))),
     }
 }
 

@@ -7,7 +7,7 @@ use Rattle.rules.proofs.Theorems.{conserved}
 use Rattle.rules.specs.Sequences.{Pair, CallStep, Seen, Turn, pairOf, queueOf, step, toldStep, start, run, timesEntered, timesLeft}
 use Rattle.rules.specs.Standing.{standingSlots}
 use Rattle.answers.specs.Answers.{ofStepAnswer}
-use Rattle.turns.specs.Calls.{turnOf}
+use Rattle.turn_calls.specs.Calls.{turnOf}
 use Rattle.turns.specs.Played.{Played, over, played, leftBy}
 use Rattle.answers.specs.declared.pairs.StepAnswer.{StepAnswer}
 

@@ -1,4 +1,3 @@
--- The calls and the answers as the contracts read them, and sequences of calls.
-pub mod Calls
+-- The answers as the contracts read them, and sequences of calls.
 pub mod Answers
 pub mod Played

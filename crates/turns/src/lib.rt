@@ -1,13 +1,18 @@
 // A call on one of two queues, as a value, and the function that makes it: its contract is the step of the rules' sequences of calls.
-mod calls; // calls.rt: the calls as values
-mod ones; // ones.rt: a call on one queue
-mod pairs; // pairs.rt: a call on either queue, or on both
+// Not among the calls: a walk's, which keeps a record of its own, and `write_image`, to which bytes are lent to be
+// written.
+mod answering; // answering.rt: the answers of calls that leave a queue, or both, as they are
+mod steps; // steps.rt: a call on either queue, or on both
 
-pub use calls::Call;
-pub use calls::DrainStep;
-pub use calls::Edit;
-pub use calls::Join;
-pub use calls::Removal;
-pub use calls::Side;
-pub use calls::Single;
-pub use pairs::turn;
+pub use steps::turn;
+pub use turn_calls::Ask;
+pub use turn_calls::AskBoth;
+pub use turn_calls::Call;
+pub use turn_calls::DrainCall;
+pub use turn_calls::Edit;
+pub use turn_calls::Join;
+pub use turn_calls::PairCall;
+pub use turn_calls::QueueCall;
+pub use turn_calls::QueueChange;
+pub use turn_calls::Removal;
+pub use turn_calls::Side;

@@ -1,0 +1,2 @@
+-- What the calls mean.
+pub mod Calls
