@@ -1,12 +1,15 @@
-// Text in and out: lines of numbers out of standard input, and numbers and texts into standard output.
-mod forms;
-mod reading;
-mod words;
-mod writing;
+// Text in and out: lines of numbers out of standard input, the words of each call, and numbers and texts into standard output.
+pub mod call; // call.rt: the call numbers
+mod forms; // forms.rt: the words that each call takes
+mod reading; // reading.rt: standard input, one line at a time
+mod words; // words.rt: a line's words as numbers
+mod writing; // writing.rt: standard output, through a buffer
 
 pub use forms::BYTE;
 pub use forms::ELEMENT;
+pub use forms::RECORD;
 pub use forms::TARGET;
+pub use forms::list;
 pub use forms::rest;
 pub use forms::well_formed;
 pub use forms::word;

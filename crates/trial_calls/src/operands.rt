@@ -4,15 +4,6 @@ use trial_text::ELEMENT;
 use trial_text::word;
 use vec_deque::Test;
 
-// The first two words of a call, as numbers, as elements, and as a test. A call looks only at those that it takes.
-pub struct Operands {
-    pub first: usize,
-    pub second: usize,
-    pub first_element: u32,
-    pub second_element: u32,
-    pub test: Test,
-}
-
 // A word that fits an element.
 fn narrow(word: usize) -> u32 {
     if word <= ELEMENT {
@@ -21,8 +12,13 @@ fn narrow(word: usize) -> u32 {
     0
 }
 
+// The word at `i` as an element.
+pub fn element(words: &[usize], i: usize) -> u32 {
+    narrow(word(words, i))
+}
+
 // A test's kind and its number as a test.
-fn test_of(kind: usize, k: u32) -> Test {
+fn test_with(kind: usize, k: u32) -> Test {
     match kind {
         1 => Test::Below(k),
         2 => Test::AtLeast(k),
@@ -31,18 +27,9 @@ fn test_of(kind: usize, k: u32) -> Test {
     }
 }
 
-// The first two words.
-pub fn first_two(words: &[usize]) -> Operands {
-    let first = word(words, 0);
-    let second = word(words, 1);
-    let k = narrow(second);
-    Operands {
-        first,
-        second,
-        first_element: narrow(first),
-        second_element: k,
-        test: test_of(first, k),
-    }
+// The first two words as a test.
+pub fn test_of(words: &[usize]) -> Test {
+    test_with(word(words, 0), element(words, 1))
 }
 
 // Puts the words, as elements, into the front of `values`, as far as there is room.

@@ -1,8 +1,8 @@
-// What the program keeps of each queue beside its slots, and what a call leaves.
-use crate::said::Said;
+// What is kept of each queue beside its slots, and what a call leaves.
 use turns::Holding;
 use turns::Side;
 use vec_deque::Deque;
+use vec_deque::Drain;
 use vec_deque::Walk;
 use vec_deque::WrappedIndex;
 
@@ -35,10 +35,20 @@ pub fn quiet(queue: Deque) -> Kept {
 }
 
 impl Kept {
-    // The same walk, beside another record.
+    // The same walk, beside another record or drain.
     pub fn with_holding(self, holding: Holding) -> Kept {
         let walk = self.walk;
         Kept { holding, walk }
+    }
+
+    // The same walk, beside another record.
+    pub fn with_record(self, queue: Deque) -> Kept {
+        self.with_holding(Holding::Shut(queue))
+    }
+
+    // The same walk, beside an open drain.
+    pub fn with_drain(self, drain: Drain) -> Kept {
+        self.with_holding(Holding::Open(drain))
     }
 
     // The same record, beside another walk.
@@ -58,6 +68,15 @@ impl Kept {
             Holding::Shut(_) => false,
         }
     }
+
+    // The queue's record; while its drain is open there is none, and an empty one stands for it.
+    pub fn queue(self) -> Deque {
+        let holding = self.holding;
+        match holding {
+            Holding::Open(_) => record(0, 0),
+            Holding::Shut(queue) => queue,
+        }
+    }
 }
 
 // The two queues.
@@ -66,10 +85,16 @@ pub struct Queues {
     pub b: Kept,
 }
 
-// What a call leaves and says.
-pub struct Done {
+// After a call: the two queues, and the bytes that the output's buffer holds.
+pub struct Called {
     pub queues: Queues,
-    pub said: Said,
+    pub at: usize,
+}
+
+// After a call on one queue that changes no slot: the same of that queue.
+pub struct Asked {
+    pub kept: Kept,
+    pub at: usize,
 }
 
 // The other queue.
@@ -77,6 +102,14 @@ pub fn other(side: Side) -> Side {
     match side {
         Side::A => Side::B,
         Side::B => Side::A,
+    }
+}
+
+// The slots of a queue.
+pub fn slots_of<'a>(side: Side, a_slots: &'a [u32], b_slots: &'a [u32]) -> &'a [u32] {
+    match side {
+        Side::A => a_slots,
+        Side::B => b_slots,
     }
 }
 
