@@ -1,7 +1,10 @@
 // The calls that can change a queue: the words of a line become a call of `turns`, and what it leaves goes out.
+use crate::operands::call_number;
 use crate::operands::copy_bytes;
 use crate::operands::copy_elements;
 use crate::operands::element;
+use crate::operands::operands;
+use crate::operands::side_of;
 use crate::operands::test_of;
 use crate::said::put_said;
 use crate::state::Called;
@@ -16,7 +19,6 @@ use turns::DrainStep;
 use turns::Edit;
 use turns::Join;
 use turns::Removal;
-use turns::Side;
 use turns::Single;
 use turns::Turned;
 
@@ -93,16 +95,11 @@ fn front_bytes(bytes: &[u8], count: usize) -> &[u8] {
 }
 
 // Makes a line's call. Its list is lent both as values and as bytes.
-fn turned(
-    number: usize,
-    words: &[usize],
-    a_slots: &mut [u32],
-    b_slots: &mut [u32],
-    queues: Queues,
-    side: Side,
-) -> Turned {
+fn turned(line: &[usize], a_slots: &mut [u32], b_slots: &mut [u32], queues: Queues) -> Turned {
     let mut values = [0u32; 2000];
     let mut bytes = [0u8; 2000];
+    let number = call_number(line);
+    let words = operands(line);
     let list = list(number, words);
     let count = list.len();
     copy_elements(list, &mut values);
@@ -116,7 +113,7 @@ fn turned(
         first,
         b_slots,
         second,
-        side,
+        side_of(line),
         call_of(number, words),
         front(&values, count),
         front_bytes(&bytes, count),
@@ -155,16 +152,14 @@ fn put_turned(number: usize, turned: Turned, out: &mut [u8], at: usize) -> usize
 
 // Makes a call that can change a queue, and puts what it gave.
 pub fn change(
-    number: usize,
-    words: &[usize],
+    line: &[usize],
     a_slots: &mut [u32],
     b_slots: &mut [u32],
     queues: Queues,
-    side: Side,
     out: &mut [u8],
     at: usize,
 ) -> Called {
-    let left = turned(number, words, a_slots, b_slots, queues, side);
+    let left = turned(line, a_slots, b_slots, queues);
     let a = left.a;
     let b = left.b;
     Called {
@@ -172,6 +167,6 @@ pub fn change(
             a: queues.a.with_holding(a),
             b: queues.b.with_holding(b),
         },
-        at: put_turned(number, left, out, at),
+        at: put_turned(call_number(line), left, out, at),
     }
 }

@@ -1,15 +1,18 @@
 // A line's call: made on the two queues, and what it gave put into the line of output.
 mod changes; // changes.rt: the calls that can change a queue
 mod looks; // looks.rt: the calls that only look
-mod operands; // operands.rt: the words of a call
+mod operands; // operands.rt: the words of a line
 mod said; // said.rt: what a call gave
 mod sets; // sets.rt: the calls that set a state
 mod state; // state.rt: what is kept of the two queues
 mod steps; // steps.rt: the walks
 
 use changes::change;
-use looks::compare_with;
+use looks::compare;
 use looks::look_at;
+use operands::call_number;
+use operands::operands;
+use operands::side_of;
 use said::put_done;
 pub use sets::fill;
 use sets::plant;
@@ -25,10 +28,7 @@ pub use state::record;
 use state::slots_of;
 use steps::walk;
 use trial_text::call;
-use trial_text::rest;
 use trial_text::well_formed;
-use trial_text::word;
-use turns::Side;
 
 // What a call does.
 enum Doing {
@@ -56,14 +56,9 @@ fn doing_of(number: usize) -> Doing {
 }
 
 // Makes a call on one queue that changes no slot, and puts what it gave.
-fn ask_one(
-    number: usize,
-    words: &[usize],
-    slots: &[u32],
-    kept: Kept,
-    out: &mut [u8],
-    at: usize,
-) -> Asked {
+fn ask_one(line: &[usize], slots: &[u32], kept: Kept, out: &mut [u8], at: usize) -> Asked {
+    let number = call_number(line);
+    let words = operands(line);
     match doing_of(number) {
         Doing::Walk => walk(number, slots, kept, out, at),
         Doing::Set => Asked {
@@ -77,19 +72,18 @@ fn ask_one(
     }
 }
 
-// The same on one of the two.
+// The same on the line's queue.
 fn ask<'a>(
-    number: usize,
-    words: &[usize],
+    line: &[usize],
     a_slots: &'a [u32],
     b_slots: &'a [u32],
     queues: Queues,
-    side: Side,
     out: &mut [u8],
     at: usize,
 ) -> Called {
+    let side = side_of(line);
     let slots = slots_of(side, a_slots, b_slots);
-    let asked = ask_one(number, words, slots, queues.of(side), out, at);
+    let asked = ask_one(line, slots, queues.of(side), out, at);
     let kept = asked.kept;
     Called {
         queues: queues.with(side, kept),
@@ -97,21 +91,21 @@ fn ask<'a>(
     }
 }
 
-// Compares a queue with the other, and puts what came of it.
-fn compare<'a>(
-    number: usize,
+// Compares the line's queue with the other, and puts what came of it.
+fn compare_both<'a>(
+    line: &[usize],
     a_slots: &'a [u32],
     b_slots: &'a [u32],
     queues: Queues,
-    side: Side,
     out: &mut [u8],
     at: usize,
 ) -> usize {
+    let side = side_of(line);
     let second = other(side);
     let slots = slots_of(side, a_slots, b_slots);
     let other_slots = slots_of(second, a_slots, b_slots);
-    compare_with(
-        number,
+    compare(
+        call_number(line),
         slots,
         queues.of(side),
         other_slots,
@@ -121,70 +115,37 @@ fn compare<'a>(
     )
 }
 
-// Makes a call, and puts what it gave.
-fn make(
-    number: usize,
-    words: &[usize],
+// Makes a line's call, and puts what it gave.
+pub fn make_call(
+    line: &[usize],
     a_slots: &mut [u32],
     b_slots: &mut [u32],
     queues: Queues,
-    side: Side,
     out: &mut [u8],
     at: usize,
 ) -> Called {
-    match doing_of(number) {
-        Doing::Change => change(number, words, a_slots, b_slots, queues, side, out, at),
+    match doing_of(call_number(line)) {
+        Doing::Change => change(line, a_slots, b_slots, queues, out, at),
         Doing::Compare => Called {
             queues,
-            at: compare(number, a_slots, b_slots, queues, side, out, at),
+            at: compare_both(line, a_slots, b_slots, queues, out, at),
         },
         Doing::Plant => Called {
-            queues: plant(words, a_slots, b_slots),
+            queues: plant(operands(line), a_slots, b_slots),
             at: put_done(out, at),
         },
-        _ => ask(number, words, a_slots, b_slots, queues, side, out, at),
-    }
-}
-
-// The queue that a word names; only 0 and 1 are names.
-fn side_of(word: usize) -> Side {
-    match word {
-        0 => Side::A,
-        _ => Side::B,
+        _ => ask(line, a_slots, b_slots, queues, out, at),
     }
 }
 
 // Whether a line's words are a call.
-pub fn is_call(words: &[usize], queues: Queues) -> bool {
-    if words.len() < 2 {
+pub fn is_call(line: &[usize], queues: Queues) -> bool {
+    if line.len() < 2 {
         return false;
     }
-    let q = words[0];
-    if 1 < q {
+    if 1 < line[0] {
         return false;
     }
-    let kept = queues.of(side_of(q));
-    well_formed(words[1], rest(words, 2), kept.is_open())
-}
-
-// Makes a line's call, and puts what it gave.
-pub fn make_call(
-    words: &[usize],
-    a_slots: &mut [u32],
-    b_slots: &mut [u32],
-    queues: Queues,
-    out: &mut [u8],
-    at: usize,
-) -> Called {
-    let side = side_of(word(words, 0));
-    make(
-        word(words, 1),
-        rest(words, 2),
-        a_slots,
-        b_slots,
-        queues,
-        side,
-        out,
-        at,
-    )
+    let kept = queues.of(side_of(line));
+    well_formed(call_number(line), operands(line), kept.is_open())
 }

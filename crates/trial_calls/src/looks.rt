@@ -95,23 +95,7 @@ pub fn look_at(
 }
 
 // Compares two queues, and puts what came of it.
-fn compare(
-    number: usize,
-    slots: &[u32],
-    queue: Deque,
-    other_slots: &[u32],
-    other: Deque,
-    out: &mut [u8],
-    at: usize,
-) -> usize {
-    match number {
-        call::EQUAL => put_truth(out, at, vec_deque::eq(slots, queue, other_slots, other)),
-        _ => put_ordering(out, at, vec_deque::cmp(slots, queue, other_slots, other)),
-    }
-}
-
-// Compares two queues whose drains may be open.
-pub fn compare_with(
+pub fn compare(
     number: usize,
     slots: &[u32],
     kept: Kept,
@@ -126,13 +110,10 @@ pub fn compare_with(
     if other.is_open() {
         return put_done(out, at);
     }
-    compare(
-        number,
-        slots,
-        kept.queue(),
-        other_slots,
-        other.queue(),
-        out,
-        at,
-    )
+    let queue = kept.queue();
+    let second = other.queue();
+    match number {
+        call::EQUAL => put_truth(out, at, vec_deque::eq(slots, queue, other_slots, second)),
+        _ => put_ordering(out, at, vec_deque::cmp(slots, queue, other_slots, second)),
+    }
 }

@@ -1,8 +1,28 @@
-// A call's operands: the words behind its number.
+// The words of a line: the queue that it calls on, the call's number, and the call's operands.
 use trial_text::BYTE;
 use trial_text::ELEMENT;
+use trial_text::rest;
 use trial_text::word;
+use turns::Side;
 use vec_deque::Test;
+
+// The queue that a line's first word names; only 0 and 1 are names.
+pub fn side_of(line: &[usize]) -> Side {
+    match word(line, 0) {
+        0 => Side::A,
+        _ => Side::B,
+    }
+}
+
+// The number of a line's call.
+pub fn call_number(line: &[usize]) -> usize {
+    word(line, 1)
+}
+
+// The operands of a line's call.
+pub fn operands(line: &[usize]) -> &[usize] {
+    rest(line, 2)
+}
 
 // A word that fits an element.
 fn narrow(word: usize) -> u32 {

@@ -11,6 +11,7 @@ use vec_deque::Point;
 use vec_deque::Ranges;
 use vec_deque::Refusal;
 use vec_deque::Searched;
+use vec_deque::Span;
 use vec_deque::Stepped;
 use vec_deque::Truth;
 use vec_deque::Written;
@@ -85,36 +86,21 @@ pub fn put_ordering(out: &mut [u8], at: usize, ordering: Ordering) -> usize {
     }
 }
 
-// Puts the ends of two runs.
-fn put_runs(
-    out: &mut [u8],
-    at: usize,
-    refusal: usize,
-    a: usize,
-    b: usize,
-    c: usize,
-    d: usize,
-) -> usize {
-    let named = put_said(out, at, refusal, 0, b" runs");
-    let first = put_spaced(out, named, a);
-    let second = put_spaced(out, first, b);
-    let third = put_spaced(out, second, c);
-    put_spaced(out, third, d)
+// Puts the two ends of a run.
+fn put_span(out: &mut [u8], at: usize, span: Span) -> usize {
+    let start = put_spaced(out, at, span.start);
+    put_spaced(out, start, span.end)
 }
 
 // Puts the two ranges; refused, there are still two.
 pub fn put_ranges(out: &mut [u8], at: usize, ranges: Ranges) -> usize {
     match ranges {
-        Ranges::Runs { front, back } => put_runs(
-            out,
-            at,
-            0,
-            front.start,
-            front.end,
-            back.start,
-            back.end,
-        ),
-        Ranges::Refused(refusal) => put_runs(out, at, number_of(refusal), 0, 0, 0, 0),
+        Ranges::Runs { front, back } => {
+            let named = put_word(out, at, b" runs");
+            let first = put_span(out, named, front);
+            put_span(out, first, back)
+        }
+        Ranges::Refused(refusal) => put_said(out, at, number_of(refusal), 0, b" runs 0 0 0 0"),
     }
 }
 
