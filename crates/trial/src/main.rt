@@ -1,5 +1,5 @@
-// Reads a script of calls on two queues, A and B, over separate slots, and writes what each call gave: how the proved queue is held
-// against anything else.
+// Reads a script of calls on two queues, A and B, over separate slots, and writes what each call gave: how the proved
+// queue is held against anything else.
 mod play; // play.rt: a script, line by line
 mod show; // show.rt: the lines of output
 

@@ -120,7 +120,7 @@ fn turned(line: &[usize], a_slots: &mut [u32], b_slots: &mut [u32], queues: Queu
     )
 }
 
-// The word of a call that is accepted and hands nothing over: `none` if it could have.
+// Puts the answer of a call that is accepted and hands nothing over: `none` if it could have.
 fn put_unhanded(number: usize, moved: usize, out: &mut [u8], at: usize) -> usize {
     match number {
         call::POP_FRONT..=call::POP_BACK_IF

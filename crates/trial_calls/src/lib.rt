@@ -40,7 +40,7 @@ enum Doing {
     Plant,
 }
 
-// What each call does.
+// What each call does; those that are not named can change a queue.
 fn doing_of(number: usize) -> Doing {
     match number {
         call::GET..=call::BACK

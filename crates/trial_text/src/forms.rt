@@ -50,7 +50,9 @@ fn form_of(number: usize) -> Form {
         | call::SWAP_REMOVE_FRONT
         | call::SWAP_REMOVE_BACK
         | call::SPLIT_OFF => Form::Numbers(1),
-        call::SWAP | call::RANGES..=call::BACK_RUN | call::DRAIN_OPEN => Form::Numbers(2),
+        call::SWAP | call::RANGES..=call::BACK_RUN | call::DRAIN_OPEN | call::PLANT => {
+            Form::Numbers(2)
+        }
         call::PUSH_BACK | call::PUSH_FRONT | call::CONTAINS | call::BINARY_SEARCH => Form::Element,
         call::RESIZE | call::INSERT => Form::NumberAndElement,
         call::POP_FRONT_IF | call::POP_BACK_IF | call::RETAIN | call::PARTITION_POINT => Form::Test,
@@ -58,7 +60,7 @@ fn form_of(number: usize) -> Form {
         call::SPLICE => Form::RangeAndElements,
         call::IMAGE_READ => Form::Bytes,
         call::IMAGE_WRITE => Form::Target,
-        call::SET_RECORD | call::PLANT => Form::Numbers(RECORD),
+        call::SET_RECORD => Form::Numbers(RECORD),
         call::SET_DRAIN => Form::Numbers(DRAIN),
         call::SET_WALK => Form::Numbers(RECORD + 2),
         _ => Form::Unknown,

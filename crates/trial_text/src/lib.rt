@@ -1,4 +1,5 @@
-// Text in and out: lines of numbers out of standard input, the words of each call, and numbers and texts into standard output.
+// Text in and out: lines of numbers out of standard input, the words that each call takes, and numbers and texts into
+// standard output.
 pub mod call; // call.rt: the call numbers
 mod forms; // forms.rt: the words that each call takes
 mod reading; // reading.rt: standard input, one line at a time
