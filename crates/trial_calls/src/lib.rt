@@ -2,7 +2,6 @@
 mod changes; // changes.rt: the calls that can change a queue
 mod looks; // looks.rt: the calls that only look
 mod operands; // operands.rt: the words of a line
-mod said; // said.rt: what a call gave
 mod sets; // sets.rt: the calls that set a state
 mod state; // state.rt: what is kept of the two queues
 mod steps; // steps.rt: the walks
@@ -13,7 +12,6 @@ use looks::look_at;
 use operands::call_number;
 use operands::operands;
 use operands::side_of;
-use said::put_done;
 pub use sets::fill;
 use sets::plant;
 use sets::set;
@@ -28,6 +26,7 @@ pub use state::record;
 use state::slots_of;
 use steps::walk;
 use trial_text::call;
+use trial_text::said::put_done;
 use trial_text::well_formed;
 
 // What a call does.

@@ -1,18 +1,18 @@
 // The calls that only look. While a drain is open they are passed over.
 use crate::operands::element;
 use crate::operands::test_of;
-use crate::said::put_done;
-use crate::said::put_found;
-use crate::said::put_ordering;
-use crate::said::put_part;
-use crate::said::put_point;
-use crate::said::put_ranges;
-use crate::said::put_searched;
-use crate::said::put_truth;
-use crate::said::put_written;
 use crate::state::Kept;
 use trial_text::TARGET;
 use trial_text::call;
+use trial_text::said::put_done;
+use trial_text::said::put_found;
+use trial_text::said::put_ordering;
+use trial_text::said::put_part;
+use trial_text::said::put_point;
+use trial_text::said::put_ranges;
+use trial_text::said::put_searched;
+use trial_text::said::put_truth;
+use trial_text::said::put_written;
 use trial_text::word;
 use vec_deque::Deque;
 

@@ -1,12 +1,12 @@
 // The walks.
-use crate::said::put_done;
-use crate::said::put_none;
-use crate::said::put_refused;
-use crate::said::put_stepped;
 use crate::state::Asked;
 use crate::state::Kept;
 use crate::state::Walking;
 use trial_text::call;
+use trial_text::said::put_done;
+use trial_text::said::put_none;
+use trial_text::said::put_refused;
+use trial_text::said::put_stepped;
 use vec_deque::Begun;
 use vec_deque::Stepped;
 use vec_deque::Walk;

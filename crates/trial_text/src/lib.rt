@@ -1,8 +1,9 @@
-// Text in and out: lines of numbers out of standard input, the words that each call takes, and numbers and texts into
-// standard output.
+// Text in and out: lines of numbers out of standard input, the words that each call takes, and into standard output
+// numbers, texts and what a call gave.
 pub mod call; // call.rt: the call numbers
 mod forms; // forms.rt: the words that each call takes
 mod reading; // reading.rt: standard input, one line at a time
+pub mod said; // said.rt: what a call gave, as text
 mod words; // words.rt: a line's words as numbers
 mod writing; // writing.rt: standard output, through a buffer
 

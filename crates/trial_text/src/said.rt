@@ -1,10 +1,10 @@
 // What a call gave, as the first part of a line: a refusal's number, 0 if there is none, a moved count, and an answer.
+use crate::writing::put_number;
+use crate::writing::put_slots;
+use crate::writing::put_spaced;
+use crate::writing::put_text;
+use crate::writing::put_values;
 use answers::number_of;
-use trial_text::put_number;
-use trial_text::put_slots;
-use trial_text::put_spaced;
-use trial_text::put_text;
-use trial_text::put_values;
 use vec_deque::Found;
 use vec_deque::Ordering;
 use vec_deque::Point;
