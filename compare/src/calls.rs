@@ -149,7 +149,18 @@ pub const NAMES: [&str; 43] = [
 impl Call {
     /// Whether the operands hold elements that enter the queue.
     pub fn adds(&self) -> bool {
-        matches!(self.words().0, 1 | 2 | 13..=17 | 33 | 41)
+        matches!(
+            self,
+            Call::PushBack(_)
+                | Call::PushFront(_)
+                | Call::Extend(_)
+                | Call::Prepend(_)
+                | Call::ExtendFront(_)
+                | Call::Resize(..)
+                | Call::Insert(..)
+                | Call::Splice(..)
+                | Call::ImageRead(_)
+        )
     }
 
     /// The call's name for a reader.

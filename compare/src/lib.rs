@@ -14,6 +14,7 @@ pub mod judge;
 pub mod known;
 pub mod model;
 pub mod model_replay;
+pub mod numbers;
 pub mod oracle;
 pub mod random;
 pub mod rng;

@@ -1,6 +1,7 @@
-// Reads a script of calls on two queues, A and B, over separate slots, and writes what each call gave: how the proved queue is held
-// against anything else.
-mod play;
+// Reads a script of calls on two queues, A and B, over separate slots, and writes what each call gave: how the proved
+// queue is held against anything else.
+mod play; // play.rt: a script, line by line
+mod show; // show.rt: the lines of output
 
 // The slots of A and B, a piece of the input, and a piece of the output.
 fn main() {

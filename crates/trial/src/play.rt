@@ -1,12 +1,13 @@
 // A script, line by line.
-use trial_lines::is_call;
-use trial_lines::play_call;
-use trial_looks::fill;
-use trial_puts::put_broken;
-use trial_puts::put_first;
-use trial_state::Queues;
-use trial_state::quiet;
-use trial_state::record;
+use crate::show::put_broken;
+use crate::show::put_first;
+use crate::show::put_queues;
+use trial_calls::Queues;
+use trial_calls::fill;
+use trial_calls::is_call;
+use trial_calls::make_call;
+use trial_calls::quiet;
+use trial_calls::record;
 use trial_text::First;
 use trial_text::Piece;
 use trial_text::Read;
@@ -21,13 +22,13 @@ struct Now {
 }
 
 // Whether the run goes on.
-enum Turn {
-    Next(Now),
+enum Progress {
+    On(Now),
     Broken,
     End,
 }
 
-// Plays a line that was read.
+// Makes the call of a line that was read, and puts its line of output.
 fn play_line(
     words: &[usize],
     a_slots: &mut [u32],
@@ -35,18 +36,18 @@ fn play_line(
     out: &mut [u8],
     now: Now,
     piece: Piece,
-) -> Turn {
+) -> Progress {
     let queues = now.queues;
     if is_call(words, queues) {
-        let called = play_call(words, a_slots, b_slots, queues, out, now.at);
+        let called = make_call(words, a_slots, b_slots, queues, out, now.at);
         let left = called.queues;
-        return Turn::Next(Now {
+        return Progress::On(Now {
             piece,
             queues: left,
-            at: called.at,
+            at: put_queues(out, called.at, a_slots, b_slots, left),
         });
     }
-    Turn::Broken
+    Progress::Broken
 }
 
 // The first words of a line.
@@ -64,7 +65,7 @@ fn play_next(
     b_slots: &mut [u32],
     out: &mut [u8],
     now: Now,
-) -> Turn {
+) -> Progress {
     let mut words = [0usize; 2000];
     let piece = now.piece;
     match next_words(buf, piece, &mut words) {
@@ -72,8 +73,8 @@ fn play_next(
             count,
             piece: behind,
         } => play_line(front(&words, count), a_slots, b_slots, out, now, behind),
-        Read::Broken => Turn::Broken,
-        Read::End => Turn::End,
+        Read::Broken => Progress::Broken,
+        Read::End => Progress::End,
     }
 }
 
@@ -91,11 +92,11 @@ fn play_lines(
     while number < usize::MAX {
         number += 1;
         match play_next(buf, a_slots, b_slots, out, now) {
-            Turn::Next(next) => {
+            Progress::On(next) => {
                 now = next;
             }
-            Turn::Broken => return put_broken(out, now.at, number),
-            Turn::End => break,
+            Progress::Broken => return put_broken(out, now.at, number),
+            Progress::End => break,
         }
     }
     now.at

@@ -1,208 +1,150 @@
-// The calls of a trial script that can change a queue: the words of a line become a call of `turns`, and what it leaves goes out. In each function the last arm is the last call of its group.
-use answers::StepAnswer;
-use elements::Given;
-use queue::State;
-use trial_state::Done;
-use trial_state::Queues;
-use trial_state::operands::Operands;
-use trial_state::operands::copy_bytes;
-use trial_state::operands::copy_elements;
-use trial_state::operands::first_two;
-use trial_state::said;
-use trial_state::said::Said;
-use trial_state::said::say;
-use trial_state::said::say_element;
-use trial_state::said::say_nothing;
-use trial_text::rest;
-use turns::Call;
-use turns::DrainCall;
-use turns::Edit;
-use turns::Join;
-use turns::PairCall;
-use turns::QueueCall;
-use turns::QueueChange;
-use turns::Removal;
-use turns::Side;
-use vec_deque::Test;
+// A line's call: made on the two queues, and what it gave put into the line of output.
+mod changes; // changes.rt: the calls that can change a queue
+mod looks; // looks.rt: the calls that only look
+mod operands; // operands.rt: the words of a line
+mod sets; // sets.rt: the calls that set a state
+mod state; // state.rt: what is kept of the two queues
+mod steps; // steps.rt: the walks
 
-// The calls that hand nothing over.
-fn edit_of(number: usize, operands: Operands) -> Edit {
-    let test = operands.test;
+use changes::change;
+use looks::compare;
+use looks::look_at;
+use operands::call_number;
+use operands::operands;
+use operands::side_of;
+pub use sets::fill;
+use sets::plant;
+use sets::set;
+use state::Asked;
+pub use state::Called;
+pub use state::Kept;
+pub use state::Queues;
+pub use state::Walking;
+use state::other;
+pub use state::quiet;
+pub use state::record;
+use state::slots_of;
+use steps::walk;
+use trial_text::call;
+use trial_text::said::put_done;
+use trial_text::well_formed;
+
+// What a call does.
+enum Doing {
+    Change,
+    Look,
+    Compare,
+    Walk,
+    Set,
+    Plant,
+}
+
+// What each call does; those that are not named can change a queue.
+fn doing_of(number: usize) -> Doing {
     match number {
-        1 => Edit::PushBack(operands.first_element),
-        2 => Edit::PushFront(operands.first_element),
-        10 => Edit::Truncate(operands.first),
-        11 => Edit::TruncateFront(operands.first),
-        12 => Edit::Clear,
-        16 => Edit::Resize(operands.first, operands.second_element),
-        17 => Edit::Insert(operands.first, operands.second_element),
-        19 => Edit::Swap(operands.first, operands.second),
-        _ => Edit::Retain(test),
+        call::GET..=call::BACK
+        | call::CONTAINS
+        | call::RANGES..=call::PARTITION_POINT
+        | call::IMAGE_WRITE => { Doing::Look }
+        call::EQUAL | call::COMPARE => Doing::Compare,
+        call::WALK_BEGIN..=call::WALK_NEXT_BACK => Doing::Walk,
+        call::SET_RECORD..=call::SET_WALK | call::FORGET => Doing::Set,
+        call::PLANT => Doing::Plant,
+        _ => Doing::Change,
     }
 }
 
-// The calls with a list of values.
-fn join_of(number: usize, start: usize, end: usize) -> Join {
-    match number {
-        13 => Join::Extend,
-        14 => Join::Prepend,
-        15 => Join::ExtendFront,
-        _ => Join::Splice(start, end),
+// Makes a call on one queue that changes no slot, and puts what it gave.
+fn ask_one(line: &[usize], slots: &[u32], kept: Kept, out: &mut [u8], at: usize) -> Asked {
+    let number = call_number(line);
+    let words = operands(line);
+    match doing_of(number) {
+        Doing::Walk => walk(number, slots, kept, out, at),
+        Doing::Set => Asked {
+            kept: set(number, words, kept),
+            at: put_done(out, at),
+        },
+        _ => Asked {
+            kept,
+            at: look_at(number, words, slots, kept, out, at),
+        },
     }
 }
 
-// The calls that hand an element over.
-fn removal_of(number: usize, i: usize, test: Test) -> Removal {
-    match number {
-        3 => Removal::PopFront,
-        4 => Removal::PopBack,
-        5 => Removal::PopFrontIf(test),
-        6 => Removal::PopBackIf(test),
-        18 => Removal::Remove(i),
-        20 => Removal::SwapRemoveFront(i),
-        _ => Removal::SwapRemoveBack(i),
+// The same on the line's queue.
+fn ask<'a>(
+    line: &[usize],
+    a_slots: &'a [u32],
+    b_slots: &'a [u32],
+    queues: Queues,
+    out: &mut [u8],
+    at: usize,
+) -> Called {
+    let side = side_of(line);
+    let slots = slots_of(side, a_slots, b_slots);
+    let asked = ask_one(line, slots, queues.of(side), out, at);
+    let kept = asked.kept;
+    Called {
+        queues: queues.with(side, kept),
+        at: asked.at,
     }
 }
 
-// The calls of an open drain.
-fn step_of(number: usize) -> DrainCall {
-    match number {
-        35 => DrainCall::Next,
-        36 => DrainCall::NextBack,
-        _ => DrainCall::Close,
-    }
-}
-
-// The changes of one queue.
-fn change_of(number: usize, operands: Operands) -> QueueChange {
-    let test = operands.test;
-    match number {
-        0 => QueueChange::Fresh,
-        3..=6 | 18 | 20 | 21 => QueueChange::Removing(removal_of(number, operands.first, test)),
-        13..=15 | 33 => QueueChange::Joining(join_of(number, operands.first, operands.second)),
-        34 => QueueChange::Drain(operands.first, operands.second),
-        41 => QueueChange::ReadImage,
-        _ => QueueChange::Editing(edit_of(number, operands)),
-    }
-}
-
-// The call of a line.
-fn call_of(number: usize, operands: Operands) -> Call {
-    match number {
-        22 => Call::OfBoth(PairCall::Append),
-        23 => Call::OfBoth(PairCall::SplitOff(operands.first)),
-        35..=37 => Call::OfDrain(step_of(number)),
-        _ => Call::OfQueue(QueueCall::Changing(change_of(number, operands))),
-    }
-}
-
-// The words of a call's list, if it has one: they stand behind its count, and splice has two words before that.
-fn list_of(number: usize, words: &[usize]) -> &[usize] {
-    match number {
-        13..=15 | 41 => rest(words, 1),
-        33 => rest(words, 3),
-        _ => rest(words, words.len()),
-    }
-}
-
-// The first values.
-fn front(values: &[u32], count: usize) -> &[u32] {
-    if count <= values.len() {
-        return &values[0..count];
-    }
-    values
-}
-
-// The first bytes.
-fn front_bytes(bytes: &[u8], count: usize) -> &[u8] {
-    if count <= bytes.len() {
-        return &bytes[0..count];
-    }
-    bytes
-}
-
-// Makes a line's call. Its list is lent both as values and as bytes.
-fn turned(
-    number: usize,
-    words: &[usize],
-    a_slots: &mut [u32],
-    a: State,
-    b_slots: &mut [u32],
-    b: State,
-    side: Side,
-) -> StepAnswer {
-    let mut values = [0u32; 2000];
-    let mut bytes = [0u8; 2000];
-    let list = list_of(number, words);
-    let count = list.len();
-    copy_elements(list, &mut values);
-    copy_bytes(list, &mut bytes);
-    let call = call_of(number, first_two(words));
-    turns::turn(
-        a_slots,
-        a,
-        b_slots,
-        b,
-        side,
-        call,
-        front(&values, count),
-        front_bytes(&bytes, count),
+// Compares the line's queue with the other, and puts what came of it.
+fn compare_both<'a>(
+    line: &[usize],
+    a_slots: &'a [u32],
+    b_slots: &'a [u32],
+    queues: Queues,
+    out: &mut [u8],
+    at: usize,
+) -> usize {
+    let side = side_of(line);
+    let second = other(side);
+    let slots = slots_of(side, a_slots, b_slots);
+    let other_slots = slots_of(second, a_slots, b_slots);
+    compare(
+        call_number(line),
+        slots,
+        queues.of(side),
+        other_slots,
+        queues.of(second),
+        out,
+        at,
     )
 }
 
-// Whether a call hands an element over.
-fn hands_over(number: usize) -> bool {
-    match number {
-        3..=6 | 18 | 20 | 21 | 35 | 36 => true,
-        _ => false,
-    }
-}
-
-// What a call says that hands nothing over: if it could have, and is not refused, `none`.
-fn say_none(number: usize, refused: usize, moved: usize) -> Said {
-    if refused == 0 {
-        if hands_over(number) {
-            return say_nothing(moved);
-        }
-    }
-    say(refused, moved, said::SILENT)
-}
-
-// What a call says that can change a queue.
-fn say_turned(number: usize, turned: StepAnswer) -> Said {
-    let handed = turned.handed;
-    match handed {
-        Given::Number(element) => say_element(turned.moved, element),
-        Given::Nothing => say_none(number, turned.refused, turned.moved),
-    }
-}
-
-// The queues with the records that a call left.
-fn with_turned(queues: Queues, turned: StepAnswer) -> Queues {
-    let first = turned.a;
-    let second = turned.b;
-    Queues {
-        a: queues.a.with_holding(first),
-        b: queues.b.with_holding(second),
-    }
-}
-
-// Makes a call that can change a queue.
-pub fn change(
-    number: usize,
-    words: &[usize],
+// Makes a line's call, and puts what it gave.
+pub fn make_call(
+    line: &[usize],
     a_slots: &mut [u32],
     b_slots: &mut [u32],
     queues: Queues,
-    side: Side,
-) -> Done {
-    let a = queues.a;
-    let b = queues.b;
-    let first = a.holding;
-    let second = b.holding;
-    let left = turned(number, words, a_slots, first, b_slots, second, side);
-    Done {
-        queues: with_turned(queues, left),
-        said: say_turned(number, left),
+    out: &mut [u8],
+    at: usize,
+) -> Called {
+    match doing_of(call_number(line)) {
+        Doing::Change => change(line, a_slots, b_slots, queues, out, at),
+        Doing::Compare => Called {
+            queues,
+            at: compare_both(line, a_slots, b_slots, queues, out, at),
+        },
+        Doing::Plant => Called {
+            queues: plant(operands(line), a_slots, b_slots),
+            at: put_done(out, at),
+        },
+        _ => ask(line, a_slots, b_slots, queues, out, at),
     }
+}
+
+// Whether a line's words are a call.
+pub fn is_call(line: &[usize], queues: Queues) -> bool {
+    if line.len() < 2 {
+        return false;
+    }
+    if 1 < line[0] {
+        return false;
+    }
+    let kept = queues.of(side_of(line));
+    well_formed(call_number(line), operands(line), kept.is_open())
 }

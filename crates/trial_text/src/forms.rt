@@ -1,4 +1,5 @@
 // The words of a call: how many it takes, and how large each may be.
+use crate::call;
 
 // The largest value of an element.
 pub const ELEMENT: usize = 4294967295;
@@ -9,120 +10,130 @@ pub const BYTE: usize = 255;
 // The most bytes of an image's target.
 pub const TARGET: usize = 64100;
 
-// More than any line has words: a call that takes a list behind n words is said to take LIST + n.
-const LIST: usize = 10000;
+// The words of a record.
+pub const RECORD: usize = 2;
 
-// No call.
-const UNKNOWN: usize = 20000;
+// The words of an open drain.
+const DRAIN: usize = 6;
 
-// How many words a call takes.
-fn words_taken(number: usize) -> usize {
+// The words that a call takes. A list is its count and that many values.
+enum Form {
+    Numbers(usize),
+    Element,
+    Target,
+    NumberAndElement,
+    Test,
+    Elements,
+    RangeAndElements,
+    Bytes,
+    Unknown,
+}
+
+// The words that each call takes.
+fn form_of(number: usize) -> Form {
     match number {
-        0 | 3 | 4 | 8 | 9 | 12 | 22 | 26 | 27 | 35..=40 | 94 => 0,
-        1 | 2 | 7 | 10 | 11 | 18 | 20 | 21 | 23 | 25 | 31 | 42 => 1,
-        5 | 6 | 16 | 17 | 19 | 24 | 28..=30 | 32 | 34 | 90 | 93 => 2,
-        92 => 4,
-        91 => 6,
-        13..=15 | 41 => LIST,
-        33 => LIST + 2,
-        _ => UNKNOWN,
+        call::FRESH
+        | call::POP_FRONT
+        | call::POP_BACK
+        | call::FRONT
+        | call::BACK
+        | call::CLEAR
+        | call::APPEND
+        | call::EQUAL
+        | call::COMPARE
+        | call::DRAIN_NEXT..=call::WALK_NEXT_BACK
+        | call::FORGET => Form::Numbers(0),
+        call::GET
+        | call::TRUNCATE
+        | call::TRUNCATE_FRONT
+        | call::REMOVE
+        | call::SWAP_REMOVE_FRONT
+        | call::SWAP_REMOVE_BACK
+        | call::SPLIT_OFF => Form::Numbers(1),
+        call::SWAP | call::RANGES..=call::BACK_RUN | call::DRAIN_OPEN | call::PLANT => {
+            Form::Numbers(2)
+        }
+        call::PUSH_BACK | call::PUSH_FRONT | call::CONTAINS | call::BINARY_SEARCH => Form::Element,
+        call::RESIZE | call::INSERT => Form::NumberAndElement,
+        call::POP_FRONT_IF | call::POP_BACK_IF | call::RETAIN | call::PARTITION_POINT => Form::Test,
+        call::EXTEND..=call::EXTEND_FRONT => Form::Elements,
+        call::SPLICE => Form::RangeAndElements,
+        call::IMAGE_READ => Form::Bytes,
+        call::IMAGE_WRITE => Form::Target,
+        call::SET_RECORD => Form::Numbers(RECORD),
+        call::SET_DRAIN => Form::Numbers(DRAIN),
+        call::SET_WALK => Form::Numbers(RECORD + 2),
+        _ => Form::Unknown,
     }
 }
 
-// Whether the words from `from` on are as many as the first of them, a list's count, says.
-fn is_list(words: &[usize], from: usize) -> bool {
-    if from < words.len() {
-        return words[from] == words.len() - from - 1;
-    }
-    false
-}
-
-// Whether a call has the words that it takes.
-fn has_words(number: usize, words: &[usize]) -> bool {
-    let taken = words_taken(number);
-    if taken == UNKNOWN {
-        return false;
-    }
-    if LIST <= taken {
-        return is_list(words, taken - LIST);
-    }
-    words.len() == taken
-}
-
-// The largest number that a call's word may be: an element, a byte, a target's length, a test's kind, or any number.
-fn largest(number: usize, i: usize) -> usize {
-    match number {
-        1 | 2 | 25 | 31 => ELEMENT,
-        42 => TARGET,
-        13..=17 => {
-            if 0 < i {
-                return ELEMENT;
-            }
-            usize::MAX
-        }
-        5 | 6 | 24 | 32 => {
-            if 0 < i {
-                return ELEMENT;
-            }
-            4
-        }
-        41 => {
-            if 0 < i {
-                return BYTE;
-            }
-            usize::MAX
-        }
-        33 => {
-            if 2 < i {
-                return ELEMENT;
-            }
-            usize::MAX
-        }
-        _ => usize::MAX,
-    }
-}
-
-// The least number that a call's word may be: a test's kind is not 0.
-fn least(number: usize, i: usize) -> usize {
-    match number {
-        5 | 6 | 24 | 32 => {
-            if i == 0 {
-                return 1;
-            }
-            0
-        }
-        _ => 0,
-    }
-}
-
-// Whether no word of a call is too large or too small.
-fn in_range(number: usize, words: &[usize]) -> bool {
-    for i in 0..words.len() {
-        let word = words[i];
-        if largest(number, i) < word {
-            return false;
-        }
-        if word < least(number, i) {
+// Whether no word from `from` on is larger than `most`.
+fn at_most(words: &[usize], from: usize, most: usize) -> bool {
+    for i in from..words.len() {
+        if most < words[i] {
             return false;
         }
     }
     true
 }
 
+// Whether there are `count` words, and none from `from` on is larger than `most`.
+fn are_words(words: &[usize], count: usize, from: usize, most: usize) -> bool {
+    if words.len() == count {
+        return at_most(words, from, most);
+    }
+    false
+}
+
+// Whether the words are a test: its kind, 1 to 4, and an element.
+fn are_test(words: &[usize]) -> bool {
+    let kind = word(words, 0);
+    if kind < 1 {
+        return false;
+    }
+    if 4 < kind {
+        return false;
+    }
+    are_words(words, 2, 1, ELEMENT)
+}
+
+// Whether a list of values, none larger than `most`, begins at `from` and ends the words.
+fn are_list(words: &[usize], from: usize, most: usize) -> bool {
+    if from < words.len() {
+        if words[from] == words.len() - from - 1 {
+            return at_most(words, from + 1, most);
+        }
+    }
+    false
+}
+
+// Whether the words are of a form.
+fn have_form(words: &[usize], form: Form) -> bool {
+    match form {
+        Form::Numbers(count) => words.len() == count,
+        Form::Element => are_words(words, 1, 0, ELEMENT),
+        Form::Target => are_words(words, 1, 0, TARGET),
+        Form::NumberAndElement => are_words(words, 2, 1, ELEMENT),
+        Form::Test => are_test(words),
+        Form::Elements => are_list(words, 0, ELEMENT),
+        Form::RangeAndElements => are_list(words, 2, ELEMENT),
+        Form::Bytes => are_list(words, 0, BYTE),
+        Form::Unknown => false,
+    }
+}
+
 // Whether the steps and the closing of a drain find one open; other calls ask for none.
 fn has_drain(number: usize, open: bool) -> bool {
     match number {
-        35..=37 => open,
+        call::DRAIN_NEXT..=call::DRAIN_CLOSE => open,
         _ => true,
     }
 }
 
 // Whether a call can be made with these words.
 pub fn well_formed(number: usize, words: &[usize], open: bool) -> bool {
-    if has_words(number, words) {
-        if in_range(number, words) {
-            return has_drain(number, open);
-        }
+    if have_form(words, form_of(number)) {
+        return has_drain(number, open);
     }
     false
 }
@@ -141,4 +152,13 @@ pub fn rest(words: &[usize], from: usize) -> &[usize] {
         return &words[from..];
     }
     words
+}
+
+// The values of a call's list; a call without one has none.
+pub fn list(number: usize, words: &[usize]) -> &[usize] {
+    match form_of(number) {
+        Form::Elements | Form::Bytes => rest(words, 1),
+        Form::RangeAndElements => rest(words, 3),
+        _ => rest(words, words.len()),
+    }
 }

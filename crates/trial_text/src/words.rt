@@ -1,4 +1,5 @@
-// A line's words as numbers: decimal, up to the largest usize, with one space between two words. Anything else is broken.
+// A line's words as numbers: decimal, up to the largest usize, with one space between two words. Anything else is
+// broken.
 use crate::reading::Line;
 use crate::reading::Piece;
 use crate::reading::next_line;

@@ -1,5 +1,5 @@
-// What the program writes goes through a buffer, which is written out when it is full and at the end. `at` is the number of bytes that it
-// holds, and each function answers the number that it then holds.
+// What the program writes goes through a buffer, which is written out when it is full and at the end. `at` is the
+// number of bytes that it holds, and each function answers the number that it then holds.
 use libc::STDOUT_FILENO;
 
 // Puts a byte.

@@ -1,16 +1,27 @@
-// A call's operands: the words behind its number.
+// The words of a line: the queue that it calls on, the call's number, and the call's operands.
 use trial_text::BYTE;
 use trial_text::ELEMENT;
+use trial_text::rest;
 use trial_text::word;
+use turns::Side;
 use vec_deque::Test;
 
-// The first two words of a call, as numbers, as elements, and as a test. A call looks only at those that it takes.
-pub struct Operands {
-    pub first: usize,
-    pub second: usize,
-    pub first_element: u32,
-    pub second_element: u32,
-    pub test: Test,
+// The queue that a line's first word names; only 0 and 1 are names.
+pub fn side_of(line: &[usize]) -> Side {
+    match word(line, 0) {
+        0 => Side::A,
+        _ => Side::B,
+    }
+}
+
+// The number of a line's call.
+pub fn call_number(line: &[usize]) -> usize {
+    word(line, 1)
+}
+
+// The operands of a line's call.
+pub fn operands(line: &[usize]) -> &[usize] {
+    rest(line, 2)
 }
 
 // A word that fits an element.
@@ -21,8 +32,13 @@ fn narrow(word: usize) -> u32 {
     0
 }
 
+// The word at `i` as an element.
+pub fn element(words: &[usize], i: usize) -> u32 {
+    narrow(word(words, i))
+}
+
 // A test's kind and its number as a test.
-fn test_of(kind: usize, k: u32) -> Test {
+fn test_with(kind: usize, k: u32) -> Test {
     match kind {
         1 => Test::Below(k),
         2 => Test::AtLeast(k),
@@ -31,18 +47,9 @@ fn test_of(kind: usize, k: u32) -> Test {
     }
 }
 
-// The first two words.
-pub fn first_two(words: &[usize]) -> Operands {
-    let first = word(words, 0);
-    let second = word(words, 1);
-    let k = narrow(second);
-    Operands {
-        first,
-        second,
-        first_element: narrow(first),
-        second_element: k,
-        test: test_of(first, k),
-    }
+// The first two words as a test.
+pub fn test_of(words: &[usize]) -> Test {
+    test_with(word(words, 0), element(words, 1))
 }
 
 // Puts the words, as elements, into the front of `values`, as far as there is room.

@@ -3,26 +3,26 @@ use mathlib.Core.Path.{_≡_}
 use native.Mathlib.Omega.{arith}
 use lib.ListN.{length, length-set}
 use borrow.Author.Needs.{needs}
-use Rattle.trial_puts.proofs.put_word.Statement.{statement}
-use Rattle.trial_puts.proofs.put_word.Tie as tie
+use Rattle.trial_calls.proofs.sets.fill.Statement.{statement}
+use Rattle.trial_calls.proofs.sets.fill.Tie as tie
 
 abbrev Inv-loop : tie.InvT-loop
-Inv-loop out₀ at word now₀ i₀ out now i = (i ≤ 6) × (length out ≡ length out₀)
+Inv-loop slots₀ first value₀ i₀ i-end slots value i = (i ≤ length slots₀) × (i-end ≡ length slots₀) × (length slots ≡ length slots₀)
 
 abbrev μ-loop : tie.MeasureT-loop
-μ-loop out₀ at word now₀ i₀ out now i = 6 - i
-
-put-byte-requires : tie.Need-put-byte-requires Inv-loop μ-loop
-put-byte-requires c κs = search needs
+μ-loop slots₀ first value₀ i₀ i-end slots value i = length slots₀ - i
 
 loop-holds : tie.Need-loop-holds Inv-loop μ-loop
 loop-holds c = search needs
 
-letter-requires : tie.Need-letter-requires Inv-loop μ-loop
-letter-requires c κs = search needs
+mul-slots : tie.Need-mul-slots Inv-loop μ-loop
+mul-slots c = search needs
 
-put-letter-requires : tie.Need-put-letter-requires Inv-loop μ-loop
-put-letter-requires c κs = search needs
+slice-write-slots : tie.Need-slice-write-slots Inv-loop μ-loop
+slice-write-slots c = search needs
+
+wrapping-add-u32-requires : tie.Need-wrapping-add-u32-requires Inv-loop μ-loop
+wrapping-add-u32-requires c κs = search needs
 
 add-i : tie.Need-add-i Inv-loop μ-loop
 add-i c = search needs
@@ -39,16 +39,16 @@ same-length c = search needs
 returns : tie.Need-returns Inv-loop μ-loop
 returns c = search needs
 
-pub put-word-spec : {M : Type 1} → statement M
-put-word-spec =
+pub fill-spec : {M : Type 1} → statement M
+fill-spec =
     tie.close
     (tie.spec
     Inv-loop
     μ-loop
-    put-byte-requires
     loop-holds
-    letter-requires
-    put-letter-requires
+    mul-slots
+    slice-write-slots
+    wrapping-add-u32-requires
     add-i
     loop-less
     loop-again

@@ -3,14 +3,14 @@ use mathlib.Core.Path.{_≡_}
 use native.Mathlib.Omega.{arith}
 use lib.ListN.{length, length-set}
 use borrow.Author.Needs.{needs}
-use Rattle.trial_state.proofs.operands.copy_bytes.Statement.{statement}
-use Rattle.trial_state.proofs.operands.copy_bytes.Tie as tie
+use Rattle.trial_calls.proofs.operands.copy_elements.Statement.{statement}
+use Rattle.trial_calls.proofs.operands.copy_elements.Tie as tie
 
 abbrev Inv-loop : tie.InvT-loop
-Inv-loop words bytes₀ i₀ i-end bytes i = (i ≤ length words) × (i-end ≡ length words) × (length bytes ≡ length bytes₀)
+Inv-loop words values₀ i₀ i-end values i = (i ≤ length words) × (i-end ≡ length words) × (length values ≡ length values₀)
 
 abbrev μ-loop : tie.MeasureT-loop
-μ-loop words bytes₀ i₀ i-end bytes i = length words - i
+μ-loop words values₀ i₀ i-end values i = length words - i
 
 loop-holds : tie.Need-loop-holds Inv-loop μ-loop
 loop-holds c = search needs
@@ -21,17 +21,20 @@ same-length c = search needs
 returns : tie.Need-returns Inv-loop μ-loop
 returns c = search needs
 
-mul-narrow-byte : tie.Need-mul-narrow-byte Inv-loop μ-loop
-mul-narrow-byte c = search needs
+mul-narrow : tie.Need-mul-narrow Inv-loop μ-loop
+mul-narrow c = search needs
 
-shared-slice-read-narrow-byte : tie.Need-shared-slice-read-narrow-byte Inv-loop μ-loop
-shared-slice-read-narrow-byte c = search needs
+shared-slice-read-narrow : tie.Need-shared-slice-read-narrow Inv-loop μ-loop
+shared-slice-read-narrow c = search needs
 
-narrow-byte-requires : tie.Need-narrow-byte-requires Inv-loop μ-loop
-narrow-byte-requires c κs = search needs
+narrow-requires : tie.Need-narrow-requires Inv-loop μ-loop
+narrow-requires c κs = search needs
 
-slice-write-bytes : tie.Need-slice-write-bytes Inv-loop μ-loop
-slice-write-bytes c = search needs
+mul-values : tie.Need-mul-values Inv-loop μ-loop
+mul-values c = search needs
+
+slice-write-values : tie.Need-slice-write-values Inv-loop μ-loop
+slice-write-values c = search needs
 
 add-i : tie.Need-add-i Inv-loop μ-loop
 add-i c = search needs
@@ -48,8 +51,8 @@ same-length-2 c = search needs
 returns-2 : tie.Need-returns-2 Inv-loop μ-loop
 returns-2 c = search needs
 
-pub copy-bytes-spec : {M : Type 1} → statement M
-copy-bytes-spec =
+pub copy-elements-spec : {M : Type 1} → statement M
+copy-elements-spec =
     tie.close
     (tie.spec
     Inv-loop
@@ -57,10 +60,11 @@ copy-bytes-spec =
     loop-holds
     same-length
     returns
-    mul-narrow-byte
-    shared-slice-read-narrow-byte
-    narrow-byte-requires
-    slice-write-bytes
+    mul-narrow
+    shared-slice-read-narrow
+    narrow-requires
+    mul-values
+    slice-write-values
     add-i
     loop-less
     loop-again
