@@ -79,11 +79,11 @@ fn put_content(out: &mut [u8], at: usize, slots: &[u32]) -> usize {
 
 // Puts a queue behind a bar.
 fn put_queue(out: &mut [u8], at: usize, slots: &[u32], kept: Kept) -> usize {
-    let held = kept.state;
+    let state = kept.state;
     let walk = kept.walk;
     let bar = put_text(out, at, b" |");
-    let state = put_state(out, bar, held);
-    let walked = put_walk(out, state, walk);
+    let named = put_state(out, bar, state);
+    let walked = put_walk(out, named, walk);
     put_content(out, walked, slots)
 }
 
