@@ -6,10 +6,10 @@ use queue::Joined;
 use queue::Split;
 use queue::State;
 ghost use mathlib.Core.Path.{_≡_};
-ghost use Rattle.rules.specs.Outcome.{Held};
-ghost use Rattle.queue.specs.Drains.{heldOf};
+ghost use Rattle.rules.specs.Outcome.{State};
+ghost use Rattle.queue.specs.Drains.{stateOf};
 ghost use Rattle.queue.specs.Pairs.{ofJoined, ofSplit};
-ghost use Rattle.answers.specs.Answers.{bothSeen, ofStepAnswer};
+ghost use Rattle.answers.specs.Answers.{bothAnswered, ofStepAnswer};
 
 // What a call on either of two queues answers: the refusal number, the moved count, what was handed over, and both records.
 pub struct StepAnswer {
@@ -23,7 +23,7 @@ pub struct StepAnswer {
 
 // The answer of `append`.
 pub fn of_joined(joined: Joined) -> StepAnswer
-    ensures { λ r. ⌜ ((h : Held) → ofStepAnswer r ≡ bothSeen h (ofJoined joined)) ⌝ }
+    ensures { λ r. ⌜ ((h : State) → ofStepAnswer r ≡ bothAnswered h (ofJoined joined)) ⌝ }
 {
     match joined {
         Joined::Done {
@@ -56,7 +56,7 @@ pub fn of_joined(joined: Joined) -> StepAnswer
 
 // The answer of `split_off`; refused, what was held of the target stays.
 pub fn of_split(before: State, split: Split) -> StepAnswer
-    ensures { λ r. ⌜ ofStepAnswer r ≡ bothSeen (heldOf before) (ofSplit split) ⌝ }
+    ensures { λ r. ⌜ ofStepAnswer r ≡ bothAnswered (stateOf before) (ofSplit split) ⌝ }
 {
     match split {
         Split::Done {

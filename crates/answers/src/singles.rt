@@ -9,7 +9,7 @@ use queue::State;
 ghost use mathlib.Core.Path.{_≡_};
 ghost use Rattle.rules.specs.Replays.{recOr};
 ghost use Rattle.queue.specs.Answers.{numberOf, ofChange, ofMade, recOf};
-ghost use Rattle.queue.specs.Drains.{heldOf};
+ghost use Rattle.queue.specs.Drains.{stateOf};
 ghost use Rattle.elements.specs.Answers.{ofHanded};
 ghost use Rattle.answers.specs.Answers.{madeAnswer, ofAnswer};
 
@@ -94,7 +94,7 @@ pub fn of_handed(handed: Handed) -> Answer
 
 // The answer of a call that makes a record; refused, what was held stays.
 pub fn of_made(before: State, made: Made) -> Answer
-    ensures { λ r. ⌜ ofAnswer r ≡ madeAnswer (heldOf before) (ofMade made) ⌝ }
+    ensures { λ r. ⌜ ofAnswer r ≡ madeAnswer (stateOf before) (ofMade made) ⌝ }
 {
     match made {
         Made::Done { queue, moved } => Answer {
@@ -114,7 +114,7 @@ pub fn of_made(before: State, made: Made) -> Answer
 
 // The record of a queue, for a caller who keeps no drain open; while one is, the record before.
 pub fn record_or(before: Deque, state: State) -> Deque
-    ensures { λ r. ⌜ recOf r ≡ recOr (recOf before) (heldOf state) ⌝ }
+    ensures { λ r. ⌜ recOf r ≡ recOr (recOf before) (stateOf state) ⌝ }
 {
     match state {
         State::Shut(queue) => queue,

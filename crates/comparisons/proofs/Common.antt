@@ -12,9 +12,9 @@ use lib.Dec.{eqb, eqb→eq}
 use lib.ListN.{drop, length, getD, drop-of-length-le}
 use lib.Seq.{drop-cons}
 use Rattle.comparisons.specs.Common.{commonLength}
-use Rattle.rules.proofs.Tests.{by-test, neqb→ne}
+use Rattle.rules.proofs.Choices.{by-test, neqb→ne}
 use Rattle.rules.specs.Looks.{same, order, less, greater, alike}
-use Rattle.rules.specs.Tests.{whether}
+use Rattle.rules.specs.Choices.{whether}
 
 and-false : (t : Bool) {u : Bool} → false ≡ u → false ≡ t && u
 and-false true e = e

@@ -12,7 +12,7 @@ use lib.ListN.{length, getD, List·getD-append, length-append}
 use lib.Seq.{getD-append-add}
 use Rattle.comparisons.proofs.Common.{length-differs, common-in, both-same, differ-same, both-alike, first-less, second-greater, differ-less, differ-greater}
 use Rattle.comparisons.specs.Common.{commonLength}
-use Rattle.rules.proofs.Tests.{cases, neqb→ne}
+use Rattle.rules.proofs.Choices.{cases, neqb→ne}
 use Rattle.rules.specs.Looks.{same, sees, order, less, greater, alike}
 
 module _ (front back : List ℕ) (i : ℕ) where

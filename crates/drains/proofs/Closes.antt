@@ -11,14 +11,14 @@ use Rattle.holes.proofs.Closes.{lay-over}
 use Rattle.holes.specs.Holes.{HoleClosed, joinedHead, joinedMoved}
 use Rattle.rules.proofs.Drains.{kept-length}
 use Rattle.rules.proofs.Slots.{length-listOf, lay-none}
-use Rattle.rules.proofs.Tests.{by-test}
+use Rattle.rules.proofs.Choices.{by-test}
 use Rattle.rules.proofs.Told.{accepted-as}
 use Rattle.rules.specs.Drains.{Drain, onDrain, closedHead, closedMoved, keptList, asOpened, closeDrain}
 use Rattle.rules.specs.Outcome.{shut, told, doClose}
 use Rattle.rules.specs.Places.{place}
 use Rattle.rules.specs.Records.{Rec, held, stepped}
 use Rattle.rules.specs.Slots.{lay, listOf}
-use Rattle.rules.specs.Tests.{whether, unless}
+use Rattle.rules.specs.Choices.{whether, unless}
 
 -- the smaller of two
 smaller : (s t : ℕ) → whether (ltb s t) s t ≡ min s t
@@ -27,7 +27,7 @@ smaller s t = by-test (ltb s t) (λ m. m ≡ min s t) (λ lt. omega (arith, ltb�
 -- an accepted closing: what is kept is laid from the new head
 pub drain-closed : (b b′ : List ℕ) (d : Drain) (h′ m : ℕ) (r : Rec) → onDrain (length b) d ≡ 0 → HoleClosed b b′ (d .head) (d .start) 0 (d .drained) (d .tail) h′ m
     → r ≡ stepped (asOpened d) (whether (eqb (d .start + d .tail) 0) 0 h′) (d .start + d .tail)
-    → (record { refused = 0; moved = m; held = shut r; handed = none }, b′) ≡ told (doClose b d)
+    → (record { refused = 0; moved = m; state = shut r; handed = none }, b′) ≡ told (doClose b d)
 unfolding doClose closeDrain closedHead closedMoved joinedHead joinedMoved unless keptList held
 drain-closed b b′ d h′ m r first c made =
     let whole = listOf b (d .head) (d .start + d .drained + d .tail) in

@@ -8,7 +8,7 @@ use Rattle.queue.proofs.Fixed.{named, dequeOf, fixed}
 use Rattle.queue.specs.Answers.{numberOf}
 use Rattle.rules.specs.Looks.{Look, refuses, sees}
 use Rattle.rules.specs.Outcome.{Answer}
-use Rattle.rules.specs.Tests.{whether}
+use Rattle.rules.specs.Choices.{whether}
 use Rattle.queue.specs.declared.records.Deque.{Deque}
 use Rattle.queue.specs.declared.refusals.Refusal.the-variants.{Slots, Record, Position, Room, Image}
 use Rattle.elements.specs.declared.answers.Handed.{Handed}
@@ -24,7 +24,7 @@ numberOr (some v) q m = Number v q m
 
 handedOf : Answer → Handed
 handedOf a =
-    let q = dequeOf (a .held) in
+    let q = dequeOf (a .state) in
     whether (eqb (a .refused) 0) (numberOr (a .handed) q (a .moved)) (NotHanded (named (a .refused)) q (a .moved))
 
 foundOf : Look (Option ℕ) → Found

@@ -5,7 +5,7 @@ use queue::Refusal;
 ghost use mathlib.Core.Path.{_≡_};
 ghost use Prim.Native.Nat.{_<_};
 ghost use lib.ListN.{length, getD};
-ghost use Rattle.rules.specs.Makes.{toldMaking, fresh};
+ghost use Rattle.rules.specs.Makes.{toldMake, fresh};
 ghost use Rattle.rules.specs.Records.{held};
 ghost use Rattle.rules.specs.Refusals.{onQueue};
 ghost use Rattle.queue.specs.Answers.{recOf, ofMade};
@@ -22,7 +22,7 @@ pub fn element(slots: &[u32], q: Deque, i: usize) -> u32
 
 // A record over no element, for slots that the caller lends.
 pub fn fresh(slots: &[u32]) -> Made
-    ensures { λ r. ⌜ (ofMade r, now (slots .entry)) ≡ toldMaking (fresh (now (slots .entry))) ⌝ }
+    ensures { λ r. ⌜ (ofMade r, now (slots .entry)) ≡ toldMake (fresh (now (slots .entry))) ⌝ }
 {
     if slots.len() > rules::most_slots() {
         return Made::Refused {

@@ -1,6 +1,6 @@
 -- What a pop by a condition answers. Assumes nothing.
 use Rattle.rules.specs.Conditions.{Test, meets}
-use Rattle.rules.specs.Tests.{whether}
+use Rattle.rules.specs.Choices.{whether}
 use Rattle.queue.specs.declared.records.Deque.{Deque}
 use Rattle.elements.specs.declared.answers.Handed.{Handed}
 use Rattle.elements.specs.declared.answers.Handed.the-variants.{Number, Nothing, Refused}

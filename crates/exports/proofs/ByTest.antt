@@ -13,7 +13,7 @@ use Rattle.replies.specs.Kinds.{ofAsked}
 use Rattle.replies.specs.declared.kinds.Asked.{Asked}
 use Rattle.replies.specs.declared.kinds.Asked.the-variants.{For, Unknown}
 use Rattle.rules.proofs.Refusals.{change-ok}
-use Rattle.rules.proofs.Tests.{unless-stop}
+use Rattle.rules.proofs.Choices.{unless-stop}
 use Rattle.rules.specs.Conditions.{Test}
 use Rattle.rules.specs.Outcome.{doRule, unchanged}
 use Rattle.rules.specs.Records.{Rec}

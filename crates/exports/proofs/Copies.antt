@@ -7,7 +7,7 @@ use native.Mathlib.Omega.{arith}
 use borrow.Author.Tests.{lt-ltb, le-ltb, le-leb, lt-leb}
 use lib.ListN.{length}
 use Rattle.rules.specs.Refusals.{mostSlots, onSlots}
-use Rattle.rules.specs.Tests.{ask, unless}
+use Rattle.rules.specs.Choices.{ask, unless}
 use Rattle.exports.specs.Copies.{inSlots, onCopy, copiedTimes, copyTold}
 
 module _ (c s n : ℕ) where

@@ -6,7 +6,7 @@ use lib.Dec.{leb, ltb}
 use lib.ListN.{length}
 use Rattle.rules.specs.Refusals.{onSlots}
 use Rattle.rules.specs.Slots.{copied}
-use Rattle.rules.specs.Tests.{ask, unless}
+use Rattle.rules.specs.Choices.{ask, unless}
 
 -- the n slots from s on are slots; s is one, even if n is 0
 unfoldable pub inSlots : ℕ → ℕ → ℕ → Bool

@@ -4,14 +4,14 @@ use replies::Reply;
 use replies::made;
 ghost use mathlib.Core.Path.{_≡_};
 ghost use Rattle.rules.specs.Makes.{fresh, readImage};
-ghost use Rattle.replies.specs.InC.{makingToldInC};
+ghost use Rattle.replies.specs.InC.{makeToldInC};
 ghost use Rattle.replies.specs.Replies.{ofReply};
 
 // An empty queue over lent slots.
 #[no_mangle]
 pub extern "C" fn scorebucket_fresh(slots: &[u32], q: &mut [usize; RECORD]) -> Reply
     ensures { λ r. ⌜ (ofReply r, now (q .exit), now (slots .entry))
-        ≡ makingToldInC (now (q .entry)) (fresh (now (slots .entry))) ⌝ }
+        ≡ makeToldInC (now (q .entry)) (fresh (now (slots .entry))) ⌝ }
 {
     made(q, elements::fresh(slots))
 }
@@ -24,7 +24,7 @@ pub extern "C" fn scorebucket_read_image(
     bytes: &[u8],
 ) -> Reply
     ensures { λ r. ⌜ (ofReply r, now (q .exit), now (slots .exit))
-        ≡ makingToldInC (now (q .entry)) (readImage (now (slots .entry)) (now (bytes .entry))) ⌝ }
+        ≡ makeToldInC (now (q .entry)) (readImage (now (slots .entry)) (now (bytes .entry))) ⌝ }
 {
     made(q, images::read_image(slots, bytes))
 }

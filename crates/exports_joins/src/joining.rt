@@ -9,7 +9,7 @@ ghost use mathlib.Core.Path.{_≡_};
 ghost use Rattle.rules.specs.Joins.{extendWith, prepend, extendFront, resize};
 ghost use Rattle.rules.specs.Pairs.{doAppend, doSplit};
 ghost use Rattle.rules.specs.Outcome.{doRule};
-ghost use Rattle.replies.specs.InC.{toldInC, pairingToldInC};
+ghost use Rattle.replies.specs.InC.{toldInC, pairToldInC};
 ghost use Rattle.replies.specs.Records.{recIn};
 ghost use Rattle.replies.specs.Replies.{ofReply};
 
@@ -82,7 +82,7 @@ pub extern "C" fn scorebucket_append(
     other: &mut [usize; RECORD],
 ) -> Reply
     ensures { λ r. ⌜ (ofReply r, now (q .exit), now (other .exit), now (slots .exit), now («other_slots» .entry))
-        ≡ pairingToldInC (now (q .entry)) (now (other .entry))
+        ≡ pairToldInC (now (q .entry)) (now (other .entry))
         (doAppend (now (slots .entry)) (recIn (now (q .entry)))
         (now («other_slots» .entry)) (recIn (now (other .entry)))) ⌝ }
 {
@@ -105,7 +105,7 @@ pub extern "C" fn scorebucket_split_off(
     t: &mut [usize; RECORD],
 ) -> Reply
     ensures { λ r. ⌜ (ofReply r, now (q .exit), now (t .exit), now (slots .entry), now (target .exit))
-        ≡ pairingToldInC (now (q .entry)) (now (t .entry))
+        ≡ pairToldInC (now (q .entry)) (now (t .entry))
         (doSplit (now (slots .entry)) (recIn (now (q .entry))) (now (target .entry)) at) ⌝ }
 {
     let before = deque_in(q);

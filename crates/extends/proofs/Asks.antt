@@ -9,11 +9,11 @@ use Rattle.queue.proofs.Checks.{failed-number, Fine, fine-change}
 use Rattle.queue.proofs.Numbers.{some-number}
 use Rattle.queue.specs.Answers.{numberIn, numberOf}
 use Rattle.rules.proofs.Refusals.{change-stop, change-go, change-ok, no-room, some-room, slots-asks, room-ok, slots-ok}
-use Rattle.rules.proofs.Tests.{passed}
+use Rattle.rules.proofs.Choices.{passed}
 use Rattle.rules.specs.Pairs.{onAppending, onSplitting}
 use Rattle.rules.specs.Records.{Rec}
 use Rattle.rules.specs.Refusals.{onChange, room, mostSlots, onSlots}
-use Rattle.rules.specs.Tests.{ask}
+use Rattle.rules.specs.Choices.{ask}
 use Rattle.queue.specs.declared.refusals.Refusal.{Refusal}
 use Rattle.queue.specs.declared.refusals.Refusal.the-variants.{Slots, Position, Room}
 use Rattle.queue.specs.declared.refusals.Checked.{Checked}

@@ -12,11 +12,11 @@ use Rattle.copies.specs.Overlap.{OneOverlap}
 use Rattle.holes.proofs.Rooms.{none-moved, head-moved, tail-moved, lay-short, can-move}
 use Rattle.holes.specs.Holes.{HoleClosed, RoomMade, SideMoves, joinedHead, joinedMoved}
 use Rattle.rules.proofs.Places.{place-zero}
-use Rattle.rules.proofs.Tests.{by-test, by-test₃, by-test₄}
+use Rattle.rules.proofs.Choices.{by-test, by-test₃, by-test₄}
 use Rattle.rules.specs.Places.{place}
 use Rattle.rules.specs.Refusals.{mostSlots}
 use Rattle.rules.specs.Slots.{copied, lay}
-use Rattle.rules.specs.Tests.{whether}
+use Rattle.rules.specs.Choices.{whether}
 
 -- ---- the side that moves, one law for each return of `shorter_side`
 

@@ -11,7 +11,7 @@ use Rattle.holes.specs.Holes.{replaced, RoomMade}
 use Rattle.rules.proofs.Places.{wrap, place-low, place-place}
 use Rattle.rules.proofs.Ring.{write-write, length-read, write-append, write-behind, read-write, write-read}
 use Rattle.rules.proofs.Slots.{lay-none, listOf-take, listOf-drop, length-lay, lay-own, length-listOf}
-use Rattle.rules.proofs.Tests.{lt-or-ge}
+use Rattle.rules.proofs.Choices.{lt-or-ge}
 use Rattle.rules.specs.Places.{place}
 use Rattle.rules.specs.Refusals.{mostSlots}
 use Rattle.rules.specs.Slots.{lay, listOf, read, copied, write}

@@ -6,7 +6,7 @@ use lib.Dec.{eqb, ltb}
 use lib.ListN.{take, drop, length}
 use Rattle.rules.specs.Places.{place}
 use Rattle.rules.specs.Slots.{lay, listOf}
-use Rattle.rules.specs.Tests.{whether}
+use Rattle.rules.specs.Choices.{whether}
 
 -- the list l with vs in the place of the d elements behind its first s
 abbrev pub replaced : List ℕ → ℕ → ℕ → List ℕ → List ℕ

@@ -16,13 +16,13 @@ use Rattle.queue.specs.Answers.{numberOf}
 use Rattle.rules.proofs.Images.{length-elements}
 use Rattle.rules.proofs.Refusals.{slots-asks, no-room, some-room}
 use Rattle.rules.proofs.Ring.{write-straight}
-use Rattle.rules.proofs.Tests.{unless-stop}
+use Rattle.rules.proofs.Choices.{unless-stop}
 use Rattle.rules.specs.Images.{mostShort, laidOut, howMany, bigEndian, fours, elementsIn}
-use Rattle.rules.specs.Makes.{toldMaking, readImage, noneMade, madeWith}
+use Rattle.rules.specs.Makes.{toldMake, readImage, noneMade, madeWith}
 use Rattle.rules.specs.Records.{Rec, newRec}
 use Rattle.rules.specs.Refusals.{mostSlots, onSlots, onLayout, room}
 use Rattle.rules.specs.Slots.{lay}
-use Rattle.rules.specs.Tests.{ask, unless}
+use Rattle.rules.specs.Choices.{ask, unless}
 use Rattle.queue.specs.declared.refusals.Refusal.the-variants.{Slots, Room, Image}
 
 -- ---- the layout: one law for each return of `laid_out`
@@ -88,26 +88,26 @@ unfolding laidOut howMany
 laid-size s e = omega (arith, eqb-true (length s) (2 + (1 + 4 * ((length s - 3) / 4))) (and-eq-true-iff (eqb (length s) (2 + (1 + 4 * ((length s - 3) / 4)))) _ .0 e .0))
 
 module _ (b s : List ℕ) where
-  stopped : (n : ℕ) → n ≢ 0 → onSlots (length b) (onLayout (laidOut s) (room (length b) (howMany s))) ≡ n → (record { refused = n; moved = 0; made = none }, b) ≡ toldMaking (readImage b s)
+  stopped : (n : ℕ) → n ≢ 0 → onSlots (length b) (onLayout (laidOut s) (room (length b) (howMany s))) ≡ n → (record { refused = n; moved = 0; made = none }, b) ≡ toldMake (readImage b s)
   unfolding readImage noneMade
   stopped n ne e = rw (e, unless-stop n _ _ ne)
 
-  pub reads-slots : mostSlots < length b → (record { refused = numberOf Slots; moved = 0; made = none }, b) ≡ toldMaking (readImage b s)
+  pub reads-slots : mostSlots < length b → (record { refused = numberOf Slots; moved = 0; made = none }, b) ≡ toldMake (readImage b s)
   unfolding onSlots ask numberOf
   reads-slots lt = stopped 1 (λ e. omega arith) (rw (lt-leb (length b) mostSlots lt))
 
   module _ (few : length b ≤ mostSlots) where
-    pub reads-broken : laidOut s ≡ false → (record { refused = numberOf Image; moved = 0; made = none }, b) ≡ toldMaking (readImage b s)
+    pub reads-broken : laidOut s ≡ false → (record { refused = numberOf Image; moved = 0; made = none }, b) ≡ toldMake (readImage b s)
     unfolding onLayout ask numberOf
     reads-broken e = stopped 5 (λ z. omega arith) (slots-asks (length b) _ few ∙ rw e)
 
     module _ (laid : laidOut s ≡ true) where
-      pub reads-full : length b < (length s - 3) / 4 → (record { refused = numberOf Room; moved = 0; made = none }, b) ≡ toldMaking (readImage b s)
+      pub reads-full : length b < (length s - 3) / 4 → (record { refused = numberOf Room; moved = 0; made = none }, b) ≡ toldMake (readImage b s)
       unfolding onLayout ask numberOf howMany
       reads-full lt = stopped 4 (λ z. omega arith) (slots-asks (length b) _ few ∙ rw laid (no-room (length b) _ lt))
 
       pub reads : (b′ : List ℕ) (r : Rec) → (length s - 3) / 4 ≤ length b → b′ ≡ lay b 0 (fours ((length s - 3) / 4) (drop 3 s)) → r ≡ newRec ((length s - 3) / 4)
-          → (record { refused = 0; moved = 0; made = some r }, b′) ≡ toldMaking (readImage b s)
+          → (record { refused = 0; moved = 0; made = some r }, b′) ≡ toldMake (readImage b s)
       unfolding readImage onLayout ask unless madeWith elementsIn howMany
       reads b′ r fits at-slots made =
           let none-refused : onSlots (length b) (onLayout (laidOut s) (room (length b) (howMany s))) ≡ 0 = slots-asks (length b) _ few ∙ rw laid (some-room (length b) _ fits) in

@@ -15,7 +15,7 @@ use Rattle.rules.proofs.Refusals.{slots-asks, some-room}
 use Rattle.rules.specs.Images.{mostShort, bigEndian, twoBytes, fourBytes, howMany, imageOf, bytesAfter, version, allBytes, laidOut, fours, elementsIn}
 use Rattle.rules.specs.Makes.{readImage, madeWith, noneMade}
 use Rattle.rules.specs.Refusals.{mostSlots, onLayout, onSlots, room}
-use Rattle.rules.specs.Tests.{ask, unless}
+use Rattle.rules.specs.Choices.{ask, unless}
 
 -- every number of the list is below k
 abbrev pub EachBelow : ℕ → List ℕ → Type 0

@@ -14,14 +14,14 @@ use Rattle.rules.proofs.Held.{length-held}
 use Rattle.rules.proofs.Refusals.{queue-stop, queue-go, no-room, some-room}
 use Rattle.rules.proofs.Ring.{read-add, read-one}
 use Rattle.rules.proofs.Slots.{length-listOf}
-use Rattle.rules.proofs.Tests.{unless-stop}
+use Rattle.rules.proofs.Choices.{unless-stop}
 use Rattle.rules.specs.Images.{allBytes, fourBytes, imageOf, twoBytes, version, bytesAfter, onWriting, writeCount, written}
 use Rattle.rules.specs.Looks.{refuses, looked, sees}
 use Rattle.rules.specs.Places.{place}
 use Rattle.rules.specs.Records.{Rec, held}
 use Rattle.rules.specs.Refusals.{onQueue}
 use Rattle.rules.specs.Slots.{listOf, read}
-use Rattle.rules.specs.Tests.{unless}
+use Rattle.rules.specs.Choices.{unless}
 use Rattle.queue.specs.declared.refusals.Refusal.{Refusal}
 use Rattle.queue.specs.declared.refusals.Refusal.the-variants.{Room}
 

@@ -11,7 +11,7 @@ ghost use Prim.Native.Nat.{_+_, _*_, _-_, _≤_, _<_};
 ghost use lib.ListN.{length, take, drop};
 ghost use lib.Seq.{sets};
 ghost use Rattle.rules.specs.Images.{mostShort, twoBytes, fourBytes, bigEndian, version, allBytes, laidOut, fours};
-ghost use Rattle.rules.specs.Makes.{toldMaking, readImage};
+ghost use Rattle.rules.specs.Makes.{toldMake, readImage};
 ghost use Rattle.rules.specs.Slots.{lay, listOf};
 ghost use Rattle.queue.specs.Answers.{recOf, ofMade};
 ghost use Rattle.queue.specs.Looks.{ofWritten};
@@ -143,7 +143,7 @@ fn take_elements(slots: &mut [u32], bytes: &[u8], n: usize)
 
 // Reads an image into bare slots, and makes the record of its elements.
 pub fn read_image(slots: &mut [u32], bytes: &[u8]) -> Made
-    ensures { λ r. ⌜ (ofMade r, now (slots .exit)) ≡ toldMaking (readImage (now (slots .entry)) (now (bytes .entry))) ⌝ }
+    ensures { λ r. ⌜ (ofMade r, now (slots .exit)) ≡ toldMake (readImage (now (slots .entry)) (now (bytes .entry))) ⌝ }
 {
     let cap = slots.len();
     if cap > rules::most_slots() {

@@ -6,7 +6,7 @@ use queue::Joined;
 use queue::Refusal;
 use queue::Split;
 ghost use mathlib.Core.Path.{_≡_};
-ghost use Rattle.rules.specs.Pairs.{onAppending, onSplitting, doAppend, doSplit, toldPairing};
+ghost use Rattle.rules.specs.Pairs.{onAppending, onSplitting, doAppend, doSplit, toldPair};
 ghost use Rattle.queue.specs.Answers.{recOf, numberIn};
 ghost use Rattle.queue.specs.Pairs.{ofJoined, ofSplit};
 
@@ -50,7 +50,7 @@ fn check_split(cap: usize, q: Deque, target_cap: usize, at: usize) -> Checked
 // Copies the other queue's elements behind ours, and empties the other.
 pub fn append(slots: &mut [u32], q: Deque, other_slots: &[u32], other: Deque) -> Joined
     ensures { λ r. ⌜ (ofJoined r, now (slots .exit), now («other_slots» .entry))
-        ≡ toldPairing (doAppend (now (slots .entry)) (recOf q) (now («other_slots» .entry)) (recOf other)) ⌝ }
+        ≡ toldPair (doAppend (now (slots .entry)) (recOf q) (now («other_slots» .entry)) (recOf other)) ⌝ }
 {
     let cap = slots.len();
     if let Checked::Refused(refusal) = check_append(cap, q, other_slots.len(), other) {
@@ -76,7 +76,7 @@ pub fn append(slots: &mut [u32], q: Deque, other_slots: &[u32], other: Deque) ->
 // Fills a bare target from its first slot on with the elements from position `at` on, which leaves the first `at` in ours.
 pub fn split_off(slots: &[u32], q: Deque, at: usize, target: &mut [u32]) -> Split
     ensures { λ r. ⌜ (ofSplit r, now (slots .entry), now (target .exit))
-        ≡ toldPairing (doSplit (now (slots .entry)) (recOf q) (now (target .entry)) at) ⌝ }
+        ≡ toldPair (doSplit (now (slots .entry)) (recOf q) (now (target .entry)) at) ⌝ }
 {
     if let Checked::Refused(refusal) = check_split(slots.len(), q, target.len(), at) {
         return Split::Refused {

@@ -8,10 +8,10 @@ use native.Mathlib.Omega.{arith}
 use borrow.Author.Tests.{ne-eqb, eq-eqb, eqb-true, lt-ltb, le-ltb}
 use lib.Dec.{eqb, eqb→eq}
 use lib.ListN.{length, take, drop, getD}
-use Rattle.rules.proofs.Tests.{cases, neqb→ne}
+use Rattle.rules.proofs.Choices.{cases, neqb→ne}
 use Rattle.rules.specs.Images.{bigEndian, version}
 use Rattle.rules.specs.Journals.{Entry, doRemove, entryOf, lengthOf, someLength, lengthAt, wordAt, recordAt, taken, broken, cut, ended}
-use Rattle.rules.specs.Tests.{whether}
+use Rattle.rules.specs.Choices.{whether}
 
 -- ---- the length of an operation's record
 

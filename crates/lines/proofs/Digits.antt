@@ -8,9 +8,9 @@ use borrow.Author.Tests.{lt-ltb, le-ltb}
 use lib.ListN.{length, set, length-append}
 use Rattle.lines.proofs.Puts.{puts-one, puts-more, puts-as}
 use Rattle.lines.specs.Puts.{Puts}
-use Rattle.rules.proofs.Tests.{lt-or-ge}
+use Rattle.rules.proofs.Choices.{lt-or-ge}
 use Rattle.rules.specs.Replays.{digitsOf, decimal}
-use Rattle.rules.specs.Tests.{whether}
+use Rattle.rules.specs.Choices.{whether}
 
 -- enough digits are allowed for: how many does not show
 enough : (j k n : ℕ) → n < j → n < k → digitsOf j n ≡ digitsOf k n

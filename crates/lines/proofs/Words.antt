@@ -91,12 +91,12 @@ module _ (t t1 t2 t3 t4 : List ℕ) (p a b c q : ℕ) where
           ∙ sym (spaced-append (u ∷ v ∷ []) (w ∷ []))
 
 module _ (t t1 t2 t3 : List ℕ) (p a b q : ℕ) where
-  pub puts-answer : (r : Rec) (e : Entry) (x : Answer) (r′ : Rec) → r′ ≡ recOr r (x .held)
+  pub puts-answer : (r : Rec) (e : Entry) (x : Answer) (r′ : Rec) → r′ ≡ recOr r (x .state)
       → Puts t t1 p a (fourNumbers (x .refused) (x .moved) r′)
       → Puts t1 t2 a b (spaced (handedWord e (x .handed))) → Puts t2 t3 b q (newline ∷ []) → Puts t t3 p q (answerLine r e x)
   unfolding answerLine fourNumbers
   puts-answer r e x r′ h w y z =
-      let k = recOr r (x .held) in
+      let k = recOr r (x .state) in
       puts-as t p t3 q _ _
       (rw h (whole-line (decimal (x .refused)) (decimal (x .moved) ∷ decimal (k .head) ∷ decimal (k .len) ∷ []) (handedWord e (x .handed))))
       (puts-append t p t2 t3 b q _ _ (puts-append t p t1 t2 a b _ _ w y) z)

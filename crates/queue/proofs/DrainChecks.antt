@@ -13,12 +13,12 @@ use Rattle.queue.proofs.Numbers.{some-number}
 use Rattle.queue.specs.Answers.{numberOf, numberIn}
 use Rattle.rules.proofs.Drains.{GoodDrain, drain-true, drain-ok, good-drain}
 use Rattle.rules.proofs.Refusals.{all-good, head-ok, record-true, slots-asks}
-use Rattle.rules.proofs.Tests.{unless-stop}
+use Rattle.rules.proofs.Choices.{unless-stop}
 use Rattle.rules.specs.Drains.{Drain, asOpened, goodDrain, onDrain}
-use Rattle.rules.specs.Outcome.{Outcome, drawn, told, unchanged}
+use Rattle.rules.specs.Outcome.{Outcome, draining, told, unchanged}
 use Rattle.rules.specs.Records.{Rec}
 use Rattle.rules.specs.Refusals.{goodHead, mostSlots, onQueue, onSlots}
-use Rattle.rules.specs.Tests.{ask, unless}
+use Rattle.rules.specs.Choices.{ask, unless}
 use Rattle.queue.specs.declared.refusals.Refusal.{Refusal}
 use Rattle.queue.specs.declared.refusals.Refusal.the-variants.{Slots, Record}
 use Rattle.queue.specs.declared.refusals.Checked.{Checked}
@@ -79,7 +79,7 @@ module _ (c : ℕ) (d : Drain) where
 module _ (b : List ℕ) (d : Drain) (t : Checked) (asked : numberIn t ≡ onDrain (length b) d) where
   -- it is refused as they say: the same record, moved 0, and nothing is written; o is what the call would do
   pub drain-refused : (o : Outcome) (x : Refusal) → t ≡ Failed x
-      → (record { refused = numberOf x; moved = 0; held = drawn d; handed = none }, b)
-      ≡ told (unless (onDrain (length b) d) o (unchanged b (drawn d) (onDrain (length b) d)))
+      → (record { refused = numberOf x; moved = 0; state = draining d; handed = none }, b)
+      ≡ told (unless (onDrain (length b) d) o (unchanged b (draining d) (onDrain (length b) d)))
   unfolding unchanged
   drain-refused o x f = rw (failed-number t x _ asked f, unless-stop (numberOf x) o _ (some-number x))

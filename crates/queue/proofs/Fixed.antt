@@ -3,10 +3,10 @@ use mathlib.Core.Option.{Option, none, some}
 use mathlib.Core.Path.{_≡_, refl, sym, _∙_, ap}
 use Prim.Native.Nat.{ℕ}
 use lib.Dec.{eqb}
-use Rattle.rules.specs.Makes.{Making}
-use Rattle.rules.specs.Outcome.{Answer, Held, shut, drawn}
+use Rattle.rules.specs.Makes.{MakeAnswer}
+use Rattle.rules.specs.Outcome.{Answer, State, shut, draining}
 use Rattle.rules.specs.Records.{Rec}
-use Rattle.rules.specs.Tests.{whether}
+use Rattle.rules.specs.Choices.{whether}
 use Rattle.queue.specs.Answers.{numberOf, ofChange, ofMade}
 use Rattle.queue.specs.declared.records.Deque.{Deque}
 use Rattle.queue.specs.declared.refusals.Refusal.{Refusal}
@@ -23,18 +23,18 @@ unfoldable pub named : ℕ → Refusal
 named n = whether (eqb n 1) Slots (whether (eqb n 2) Record (whether (eqb n 3) Position (whether (eqb n 4) Room Image)))
 
 -- the record of a queue
-unfoldable pub dequeOf : Held → Deque
+unfoldable pub dequeOf : State → Deque
 dequeOf (shut r) = record { head = record { 0 = r .head }; len = r .len }
-dequeOf (drawn d) = record { head = record { 0 = d .head }; len = 0 }
+dequeOf (draining d) = record { head = record { 0 = d .head }; len = 0 }
 
 changeOf : Answer → Change
-changeOf a = whether (eqb (a .refused) 0) (Done (dequeOf (a .held)) (a .moved)) (Refused (named (a .refused)) (dequeOf (a .held)) (a .moved))
+changeOf a = whether (eqb (a .refused) 0) (Done (dequeOf (a .state)) (a .moved)) (Refused (named (a .refused)) (dequeOf (a .state)) (a .moved))
 
 recordOr : Option Rec → ℕ → ℕ → Made
 recordOr none n m = NotMade (named n) m
 recordOr (some r) n m = Ready (dequeOf (shut r)) m
 
-madeOf : Making → Made
+madeOf : MakeAnswer → Made
 madeOf a = recordOr (a .made) (a .refused) (a .moved)
 
 -- ---- it leads back

@@ -6,11 +6,11 @@ use lib.ListN.{length}
 use Rattle.queue.proofs.Checks.{failed-number}
 use Rattle.queue.proofs.Numbers.{some-number}
 use Rattle.queue.specs.Answers.{numberOf, numberIn}
-use Rattle.rules.proofs.Tests.{unless-stop}
+use Rattle.rules.proofs.Choices.{unless-stop}
 use Rattle.rules.specs.Looks.{Look, sees, refuses, looked, lookAt}
 use Rattle.rules.specs.Records.{Rec, held}
 use Rattle.rules.specs.Refusals.{onQueue}
-use Rattle.rules.specs.Tests.{unless}
+use Rattle.rules.specs.Choices.{unless}
 use Rattle.queue.specs.declared.refusals.Refusal.{Refusal}
 use Rattle.queue.specs.declared.refusals.Checked.{Checked}
 use Rattle.queue.specs.declared.refusals.Checked.the-variants.{Refused as Failed}

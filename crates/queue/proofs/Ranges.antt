@@ -7,7 +7,7 @@ use borrow.Author.Tests.{lt-leb, le-leb}
 use lib.Dec.{leb}
 use Rattle.rules.proofs.Refusals.{range-ok}
 use Rattle.rules.specs.Refusals.{inRange}
-use Rattle.rules.specs.Tests.{ask}
+use Rattle.rules.specs.Choices.{ask}
 
 module _ (n s e k : ℕ) where
   pub range-turned : e < s → inRange n s e k ≡ 3

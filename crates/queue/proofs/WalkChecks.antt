@@ -6,7 +6,7 @@ use Rattle.queue.proofs.Numbers.{some-number}
 use Rattle.queue.specs.Answers.{numberOf}
 use Rattle.rules.proofs.Refusals.{queue-stop, queue-go}
 use Rattle.rules.specs.Refusals.{onQueue}
-use Rattle.rules.specs.Tests.{ask}
+use Rattle.rules.specs.Choices.{ask}
 use Rattle.rules.specs.Walks.{Walk, onWalk}
 use Rattle.queue.specs.declared.refusals.Refusal.{Refusal}
 use Rattle.queue.specs.declared.refusals.Refusal.the-variants.{Record}

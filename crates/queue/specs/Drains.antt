@@ -3,9 +3,9 @@ use mathlib.Core.Option.{Option, none}
 use Prim.Native.Nat.{ℕ}
 use Rattle.queue.specs.Answers.{recOf, answer, numberOf}
 use Rattle.rules.specs.Drains.{Drain}
-use Rattle.rules.specs.Outcome.{Answer, Held, shut, drawn}
+use Rattle.rules.specs.Outcome.{Answer, State, shut, draining}
 use Rattle.queue.specs.declared.records.Drain.{Drain as Draining}
-use Rattle.queue.specs.declared.records.State.{State}
+use Rattle.queue.specs.declared.records.State.{State as Kept}
 use Rattle.queue.specs.declared.records.State.the-variants.{Shut, Draining as Drains}
 use Rattle.queue.specs.declared.answers.Opened.{Opened}
 use Rattle.queue.specs.declared.answers.Opened.the-variants.{Done as Open, Refused as NotOpened}
@@ -24,13 +24,13 @@ drainOf d = record {
 }
 
 -- the record of a queue, or of its open drain
-abbrev pub heldOf : State → Held
-heldOf (Shut q) = shut (recOf q)
-heldOf (Drains d) = drawn (drainOf d)
+abbrev pub stateOf : Kept → State
+stateOf (Shut q) = shut (recOf q)
+stateOf (Drains d) = draining (drainOf d)
 
 -- an answer on an open drain: refusal number, moved count, record and what is handed over
 abbrev pub drawing : ℕ → ℕ → Draining → Option ℕ → Answer
-drawing n m d v = record { refused = n; moved = m; held = drawn (drainOf d); handed = v }
+drawing n m d v = record { refused = n; moved = m; state = draining (drainOf d); handed = v }
 
 -- of the opening: the drain's record, or the same record of the queue with a refusal number
 abbrev pub ofOpened : Opened → Answer

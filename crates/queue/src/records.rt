@@ -5,7 +5,7 @@ ghost use Prim.Native.Nat.{_+_, _<_, _≤_};
 ghost use lib.Dec.{eqb};
 ghost use Rattle.rules.specs.Drains.{opened, oneLess, fromFront, fromBack, spread, asOpened};
 ghost use Rattle.rules.specs.Records.{stepped, newRec};
-ghost use Rattle.rules.specs.Tests.{whether};
+ghost use Rattle.rules.specs.Choices.{whether};
 ghost use Rattle.rules.specs.Walks.{wholeWalk};
 ghost use Rattle.queue.specs.Answers.{recOf};
 ghost use Rattle.queue.specs.Drains.{drainOf};

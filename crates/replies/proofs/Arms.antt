@@ -6,8 +6,8 @@ use Rattle.queue.proofs.Numbers.{some-number}
 use Rattle.queue.specs.Answers.{numberOf}
 use Rattle.queue.specs.declared.refusals.Refusal.{Refusal}
 use Rattle.queue.specs.declared.refusals.Refusal.the-variants.{Slots, Record, Position, Room, Image}
-use Rattle.rules.proofs.Tests.{unless-stop}
-use Rattle.rules.specs.Tests.{unless}
+use Rattle.rules.proofs.Choices.{unless-stop}
+use Rattle.rules.specs.Choices.{unless}
 
 -- the arm makes it of the answer's own parts
 pub arm : {A B C : Type 0} (f : B → C) (o : A → B) (a a′ : A) → a′ ≡ a → f (o a) ≡ f (o a′)

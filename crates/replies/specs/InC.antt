@@ -6,15 +6,15 @@ use mathlib.Core.List.{List}
 use mathlib.Core.Option.{Option, none, some}
 use Prim.Native.Nat.{ℕ}
 use Rattle.rules.specs.Looks.{Look, sees, refuses, Order, less, alike, greater}
-use Rattle.rules.specs.Makes.{Making, MadeIn}
+use Rattle.rules.specs.Makes.{MakeAnswer, MakeOutcome}
 use Rattle.rules.specs.Outcome.{Answer, Outcome}
-use Rattle.rules.specs.Pairs.{Pairing, Paired}
+use Rattle.rules.specs.Pairs.{PairAnswer, PairOutcome}
 use Rattle.rules.specs.Records.{Rec}
 use Rattle.rules.specs.Runs.{TwoRuns}
 use Rattle.rules.specs.Search.{Spot, foundAt, placeAt}
-use Rattle.rules.specs.Tests.{unless}
+use Rattle.rules.specs.Choices.{unless}
 use Rattle.rules.specs.Walks.{Walk, WalkStep}
-use Rattle.replies.specs.Records.{recWords, heldWords, walkWords, runsWords}
+use Rattle.replies.specs.Records.{recWords, stateWords, walkWords, runsWords}
 
 -- ---- calls that change a list or a record
 
@@ -35,7 +35,7 @@ saidOf a = said (a .refused) (a .moved) (a .handed)
 
 -- on a record in the words `old`: what it says, and the words after
 abbrev pub answerInC : List ℕ → Answer → Said × List ℕ
-answerInC old a = (saidOf a, unless (a .refused) (heldWords (a .held)) old)
+answerInC old a = (saidOf a, unless (a .refused) (stateWords (a .state)) old)
 
 -- the words of a record, if there is one
 abbrev pub wordsOr : List ℕ → Option Rec → List ℕ
@@ -43,12 +43,12 @@ wordsOr old none = old
 wordsOr old (some r) = recWords r
 
 -- a record that is made
-abbrev pub makingInC : List ℕ → Making → Said × List ℕ
-makingInC old m = (said (m .refused) (m .moved) none, wordsOr old (m .made))
+abbrev pub makeInC : List ℕ → MakeAnswer → Said × List ℕ
+makeInC old m = (said (m .refused) (m .moved) none, wordsOr old (m .made))
 
 -- our record and the other's
-abbrev pub pairingInC : List ℕ → List ℕ → Pairing → Said × List ℕ × List ℕ
-pairingInC old old′ p = (
+abbrev pub pairInC : List ℕ → List ℕ → PairAnswer → Said × List ℕ × List ℕ
+pairInC old old′ p = (
   said (p .refused) (p .moved) none,
   unless (p .refused) (recWords (p .rec)) old,
   unless (p .refused) (wordsOr old′ (p .other)) old′,
@@ -58,11 +58,11 @@ pairingInC old old′ p = (
 abbrev pub toldInC : List ℕ → Outcome → Said × List ℕ × List ℕ
 toldInC old o = let p = answerInC old (o .answer) in (p .0, p .1, o .slots)
 
-abbrev pub makingToldInC : List ℕ → MadeIn → Said × List ℕ × List ℕ
-makingToldInC old m = let p = makingInC old (m .making) in (p .0, p .1, m .slots)
+abbrev pub makeToldInC : List ℕ → MakeOutcome → Said × List ℕ × List ℕ
+makeToldInC old m = let p = makeInC old (m .answer) in (p .0, p .1, m .slots)
 
-abbrev pub pairingToldInC : List ℕ → List ℕ → Paired → Said × List ℕ × List ℕ × List ℕ × List ℕ
-pairingToldInC old old′ m = let p = pairingInC old old′ (m .pairing) in (p .0, p .1, p .2, m .slots, m .slots′)
+abbrev pub pairToldInC : List ℕ → List ℕ → PairOutcome → Said × List ℕ × List ℕ × List ℕ × List ℕ
+pairToldInC old old′ m = let p = pairInC old old′ (m .answer) in (p .0, p .1, p .2, m .slots, m .slots′)
 
 -- ---- calls that only look
 

@@ -4,7 +4,7 @@ use Prim.Native.Nat.{ℕ}
 use lib.Dec.{eqb}
 use Rattle.conditions.specs.Tests.{testOf}
 use Rattle.rules.specs.Conditions.{Test, below, atLeast, equal, other}
-use Rattle.rules.specs.Tests.{whether}
+use Rattle.rules.specs.Choices.{whether}
 use Rattle.replies.specs.declared.kinds.Asked.{Asked}
 use Rattle.replies.specs.declared.kinds.Asked.the-variants.{For, Unknown}
 

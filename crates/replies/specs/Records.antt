@@ -4,7 +4,7 @@ use mathlib.Core.List.{List, [], _∷_, _++_}
 use Prim.Native.Nat.{ℕ}
 use lib.ListN.{getD}
 use Rattle.rules.specs.Drains.{Drain}
-use Rattle.rules.specs.Outcome.{Held, shut, drawn}
+use Rattle.rules.specs.Outcome.{State, shut, draining}
 use Rattle.rules.specs.Records.{Rec}
 use Rattle.rules.specs.Runs.{TwoRuns}
 use Rattle.rules.specs.Walks.{Walk}
@@ -42,9 +42,9 @@ unfoldable pub walkWords : Walk → List ℕ
 walkWords w = recWords (w .rec) ++ w .low ∷ w .high ∷ []
 
 -- of the queue, or of its open drain
-abbrev pub heldWords : Held → List ℕ
-heldWords (shut r) = recWords r
-heldWords (drawn d) = drainWords d
+abbrev pub stateWords : State → List ℕ
+stateWords (shut r) = recWords r
+stateWords (draining d) = drainWords d
 
 -- where the front run begins and ends, and the back run
 unfoldable pub runsWords : TwoRuns → List ℕ

@@ -14,7 +14,7 @@ ghost use mathlib.Core.Path.{_≡_};
 ghost use Rattle.queue.specs.Answers.{numberOf, ofChange, ofMade};
 ghost use Rattle.elements.specs.Answers.{ofHanded};
 ghost use Rattle.queue.specs.Pairs.{ofJoined, ofSplit};
-ghost use Rattle.replies.specs.InC.{said, answerInC, makingInC, pairingInC};
+ghost use Rattle.replies.specs.InC.{said, answerInC, makeInC, pairInC};
 ghost use Rattle.replies.specs.Replies.{ofReply};
 
 // What such a call says: `refused` is the refusal number, or 0; `handed` is 1 where `number` was handed over, else both are 0.
@@ -106,7 +106,7 @@ pub fn handed(q: &mut [usize; RECORD], handed: Handed) -> Reply
 
 // Stores the record that a call made, if it made one.
 pub fn made(q: &mut [usize; RECORD], made: Made) -> Reply
-    ensures { λ r. ⌜ (ofReply r, now (q .exit)) ≡ makingInC (now (q .entry)) (ofMade made) ⌝ }
+    ensures { λ r. ⌜ (ofReply r, now (q .exit)) ≡ makeInC (now (q .entry)) (ofMade made) ⌝ }
 {
     match made {
         Made::Done { queue, moved } => {
@@ -120,7 +120,7 @@ pub fn made(q: &mut [usize; RECORD], made: Made) -> Reply
 // Stores both records after `append`, if it was accepted.
 pub fn joined(q: &mut [usize; RECORD], other: &mut [usize; RECORD], joined: Joined) -> Reply
     ensures { λ r. ⌜ (ofReply r, now (q .exit), now (other .exit))
-        ≡ pairingInC (now (q .entry)) (now (other .entry)) (ofJoined joined) ⌝ }
+        ≡ pairInC (now (q .entry)) (now (other .entry)) (ofJoined joined) ⌝ }
 {
     match joined {
         Joined::Done {
@@ -144,7 +144,7 @@ pub fn joined(q: &mut [usize; RECORD], other: &mut [usize; RECORD], joined: Join
 // Stores the record after `split_off` and the target's, if it was accepted.
 pub fn split(q: &mut [usize; RECORD], t: &mut [usize; RECORD], split: Split) -> Reply
     ensures { λ r. ⌜ (ofReply r, now (q .exit), now (t .exit))
-        ≡ pairingInC (now (q .entry)) (now (t .entry)) (ofSplit split) ⌝ }
+        ≡ pairInC (now (q .entry)) (now (t .entry)) (ofSplit split) ⌝ }
 {
     match split {
         Split::Done {

@@ -6,9 +6,9 @@ use Prim.Native.Nat.{ℕ, _≤_, zero-le, suc, suc-le-suc, _<_, _+_}
 use native.Mathlib.Omega.{arith}
 use lib.ListN.{length, take, drop}
 use Rattle.retains.specs.Leading.{leading}
-use Rattle.rules.proofs.Tests.{by-test, by-test₂}
+use Rattle.rules.proofs.Choices.{by-test, by-test₂}
 use Rattle.rules.specs.Conditions.{those, behind}
-use Rattle.rules.specs.Tests.{whether}
+use Rattle.rules.specs.Choices.{whether}
 
 module _ (f : ℕ → Bool) where
   pub leading-fits : (l : List ℕ) → leading f l ≤ length l

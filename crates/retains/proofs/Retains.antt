@@ -52,7 +52,7 @@ module _ (b : List ℕ) (r : Rec) (first : onChange (length b) r 0 ≡ 0) (t : T
     whole : those (meets t) l ≡ l
     whole = split ∙ ap (λ (m : List ℕ). take k l ++ m) past ∙ append-nil _ ∙ take-all k l (omega (arith, many))
 
-    pub retained-all : (record { refused = 0; moved = 0; held = shut r; handed = none }, b) ≡ told (doRule b r (retain t))
+    pub retained-all : (record { refused = 0; moved = 0; state = shut r; handed = none }, b) ≡ told (doRule b r (retain t))
     unfolding retain held l
     retained-all = accepts-same b r (retain t) first refl refl (ap length whole ∙ many) (ap length (later ∙ past)) refl whole
 
@@ -78,7 +78,7 @@ module _ (b : List ℕ) (r : Rec) (first : onChange (length b) r 0 ≡ 0) (t : T
     retained-few at-m = omega (arith, kept-upto, length-those (meets t) rest, length-listOf b (place (length b) p 1) (r .len - k - 1))
 
     pub retained : (r′ : Rec) (b′ : List ℕ) → m ≡ length (those (meets t) rest) → b′ ≡ lay b p (those (meets t) rest) → r′ ≡ stepped r (r .head) (k + m)
-        → (record { refused = 0; moved = m; held = shut r′; handed = none }, b′) ≡ told (doRule b r (retain t))
+        → (record { refused = 0; moved = m; state = shut r′; handed = none }, b′) ≡ told (doRule b r (retain t))
     unfolding retain held l
     retained r′ b′ at-m at-b′ made =
         let g = fine-change b r first .good in

@@ -9,27 +9,27 @@ use Rattle.rules.proofs.Held.{length-held, stepped-good, laid}
 use Rattle.rules.proofs.Lawful.{Lawful}
 use Rattle.rules.proofs.Refusals.{Good, record-true, change-ok}
 use Rattle.rules.specs.Drains.{Drain, during, asOpened, closeDrain}
-use Rattle.rules.specs.Outcome.{Held, shut, drawn, refusal, recAfter}
+use Rattle.rules.specs.Outcome.{State, shut, draining, refusal, recAfter}
 use Rattle.rules.specs.Records.{Rec, held, stepped}
 use Rattle.rules.specs.Refusals.{mostSlots}
 use Rattle.rules.specs.Rule.{Rule, after}
 use Rattle.rules.specs.Sequences.{stands}
 use Rattle.rules.specs.Slots.{lay}
-use Rattle.rules.specs.Tests.{whether}
+use Rattle.rules.specs.Choices.{whether}
 
 -- its record is good; a drain is open only where the slots are not too many
-pub data Fit (b : List ℕ) : Held → Type 0 where
+pub data Fit (b : List ℕ) : State → Type 0 where
   fit-shut : {r : Rec} → Good (length b) r → Fit b (shut r)
-  fit-drawn : {d : Drain} → length b ≤ mostSlots → GoodDrain (length b) d → Fit b (drawn d)
+  fit-draining : {d : Drain} → length b ≤ mostSlots → GoodDrain (length b) d → Fit b (draining d)
 
 -- under a good record the list of the queue stands, and while a drain is open what it leaves standing
 pub stands-shut : (b : List ℕ) (r : Rec) → Good (length b) r → stands b (shut r) ≡ held b r
 unfolding stands whether
 stands-shut b r g = rw (record-true (length b) r g)
 
-pub stands-drawn : (b : List ℕ) (d : Drain) → GoodDrain (length b) d → stands b (drawn d) ≡ during (held b (asOpened d)) d
+pub stands-draining : (b : List ℕ) (d : Drain) → GoodDrain (length b) d → stands b (draining d) ≡ during (held b (asOpened d)) d
 unfolding stands whether
-stands-drawn b d g = rw (drain-true (length b) d g)
+stands-draining b d g = rw (drain-true (length b) d g)
 
 -- ---- what an accepted call leaves: its record is good, and the list that the rule gives is as long as that says
 

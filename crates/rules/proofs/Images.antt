@@ -4,7 +4,7 @@ use mathlib.Core.Path.{_≡_, refl, ap}
 use Prim.Native.Nat.{ℕ, zero, suc, _≤_}
 use lib.ListN.{length, drop}
 use Rattle.rules.proofs.Refusals.{room-ok, slots-ok}
-use Rattle.rules.proofs.Tests.{passed}
+use Rattle.rules.proofs.Choices.{passed}
 use Rattle.rules.specs.Images.{fours, elementsIn, howMany, laidOut}
 use Rattle.rules.specs.Refusals.{onSlots, onLayout, room}
 

@@ -4,6 +4,6 @@ use mathlib.Core.Path.{_≡_, refl, ap}
 use Prim.Native.Nat.{ℕ}
 use Rattle.rules.specs.Rule.{numbers}
 
-pub map-made : (vs : List ℕ) → map (numbers .made) vs ≡ vs
-map-made [] = refl
-map-made (v ∷ vs) = ap (λ (l : List ℕ). v ∷ l) (map-made vs)
+pub map-brought : (vs : List ℕ) → map (numbers .brought) vs ≡ vs
+map-brought [] = refl
+map-brought (v ∷ vs) = ap (λ (l : List ℕ). v ∷ l) (map-brought vs)

@@ -11,13 +11,13 @@ use lib.Dec.{eqb, eqb→eq}
 use lib.ListN.{length, getD, take, drop, length-take, take-append-drop, set, length-map}
 use lib.Seq.{take-at, drop-at}
 use Rattle.rules.proofs.Places.{place-zero, place-suc, place-low, wrap}
-use Rattle.rules.proofs.Tests.{by-test, cases, neqb→ne}
+use Rattle.rules.proofs.Choices.{by-test, cases, neqb→ne}
 use Rattle.rules.specs.Count.{one-if}
 use Rattle.rules.specs.Moves.{marksFrom, Marked, slotOf, placesFrom, elsewhere, strays, marked}
 use Rattle.rules.specs.Places.{place}
 use Rattle.rules.specs.Sequences.{Side, sideA, sideB}
 use Rattle.rules.specs.Slots.{read}
-use Rattle.rules.specs.Tests.{whether}
+use Rattle.rules.specs.Choices.{whether}
 
 module _ (d : Side) (cap : ℕ) (b : List ℕ) where
   pub length-marks : (h n : ℕ) → length (marksFrom d cap b h n) ≡ n
@@ -146,7 +146,7 @@ module _ (d : Side) where
   strays-set (y ∷ l) (p ∷ ps) (suc i) x e lt long = omega (arith, strays-set l ps i x e (le-of-suc-le-suc lt) (omega arith))
 
   -- what comes from outside stood nowhere
-  pub strays-made : (vs ps : List ℕ) → strays d (map (marked .made) vs) ps ≡ 0
+  pub strays-made : (vs ps : List ℕ) → strays d (map (marked .brought) vs) ps ≡ 0
   unfolding strays elsewhere
   strays-made [] ps = refl
   strays-made (v ∷ vs) [] = refl
@@ -186,12 +186,12 @@ module _ (d : Side) where
 
     -- THE SHAPE OF MOST CALLS: the first i elements, then some from outside, then those from position j on, laid from h′ on
     pub strays-cut : (h h′ n i j : ℕ) (vs : List ℕ) → h < cap → h′ < cap → n ≤ cap → i ≤ j → j ≤ n → i + length vs + (n - j) ≤ cap
-        → strays d (take i (marksFrom d cap b h n) ++ (map (marked .made) vs ++ drop j (marksFrom d cap b h n))) (placesFrom cap h′ (i + length vs + (n - j)))
+        → strays d (take i (marksFrom d cap b h n) ++ (map (marked .brought) vs ++ drop j (marksFrom d cap b h n))) (placesFrom cap h′ (i + length vs + (n - j)))
         ≡ stretch h h′ i + stretch (place cap h j) (place cap h′ (i + length vs)) (n - j)
     strays-cut h h′ n i j vs g g′ fits le le′ room =
         let k = n - j in
-        let v = map (marked .made) vs in
-        let long : length v ≡ length (placesFrom cap (place cap h′ i) (length vs)) = length-map vs (marked .made) ∙ sym (length-places cap (place cap h′ i) (length vs)) in
+        let v = map (marked .brought) vs in
+        let long : length v ≡ length (placesFrom cap (place cap h′ i) (length vs)) = length-map vs (marked .brought) ∙ sym (length-places cap (place cap h′ i) (length vs)) in
         let front : length (marksFrom d cap b h i) ≡ length (placesFrom cap h′ i) = length-marks d cap b h i ∙ sym (length-places cap h′ i) in
         rw (marks-take d cap b h g i n (omega arith) fits, marks-drop d cap b h g j n le′ fits, three-places h′ i (length vs) k g′ room)
         (omega (

@@ -7,7 +7,7 @@ use native.Mathlib.Omega.{arith}
 use lib.ListN.{length, take, length-take, drop, length-drop, take-append-drop}
 use lib.Seq.{drop-drop}
 use Rattle.rules.proofs.Drains.{opening-range, open-same, GoodDrain, front-same, back-same}
-use Rattle.rules.proofs.Fit.{Fit, fit-shut, fit-drawn}
+use Rattle.rules.proofs.Fit.{Fit, fit-shut, fit-draining}
 use Rattle.rules.proofs.Marks.{length-marks, length-places, strays-append, none-taken, none-dropped, strays-made}
 use Rattle.rules.proofs.Moved.{MovedTrue, same-moved, MovedAt}
 use Rattle.rules.proofs.MovedEnds.{pushBack-moved, pushFront-moved, popFront-moved, popBack-moved, popFrontIf-moved, popBackIf-moved, truncate-moved, truncateFront-moved, clear-moved}
@@ -17,18 +17,18 @@ use Rattle.rules.proofs.MovedSplice.{splice-moved, close-moved}
 use Rattle.rules.proofs.MovedSwaps.{exchange-moved, swapRemoveFront-moved, swapRemoveBack-moved}
 use Rattle.rules.proofs.Refusals.{Good}
 use Rattle.rules.proofs.Slots.{length-lay}
-use Rattle.rules.proofs.Tests.{when-accepted}
+use Rattle.rules.proofs.Choices.{when-accepted}
 use Rattle.rules.specs.Calls.{Op, rule, pushBack!, pushFront!, popFront!, popBack!, popFrontIf!, popBackIf!, truncate!, truncateFront!, clear!, extend!, prepend!, extendFront!, resize!, insert!, remove!, swap!, swapRemoveFront!, swapRemoveBack!, retain!, splice! }
 use Rattle.rules.specs.Drains.{Drain, during, handable, spread, opened, fromFront, fromBack, asOpened, closeDrain, onDrain}
 use Rattle.rules.specs.Images.{elementsIn, laidOut, howMany}
 use Rattle.rules.specs.Makes.{madeWith, noneMade, fresh, readImage}
 use Rattle.rules.specs.Moves.{strays, marksFrom, placesFrom, standing, marksOf, placesOf, Marked, marked, changeAfter, drainAfter}
-use Rattle.rules.specs.Outcome.{Held, Outcome, accepted, shut, unchanged, drawn, doRule, refusal, doOpen, handsOver, nextOf, nextBackOf, doNext, doNextBack, doClose}
+use Rattle.rules.specs.Outcome.{State, Outcome, accepted, shut, unchanged, draining, doRule, refusal, doOpen, handsOver, nextOf, nextBackOf, doNext, doNextBack, doClose}
 use Rattle.rules.specs.Records.{Rec}
 use Rattle.rules.specs.Refusals.{onTaking, onSlots, onLayout, room, mostSlots}
 use Rattle.rules.specs.Rule.{Rule}
-use Rattle.rules.specs.Sequences.{Side, making, QueueChange, op, freshly, reading, opening, doOnQueue, DrainCall, doOnDrain, next, nextBack, close}
-use Rattle.rules.specs.Tests.{unless}
+use Rattle.rules.specs.Sequences.{Side, doMake, QueueChange, op, freshly, reading, opening, doOnQueue, DrainCall, doOnDrain, next, nextBack, close}
+use Rattle.rules.specs.Choices.{unless}
 
 pub moved-true : (o : Op) → MovedTrue (rule o)
 unfolding rule
@@ -77,16 +77,16 @@ module _ (s : Side) (b : List ℕ) where
         none-dropped s x w ps long none,
       )
 
-  pub stands-still : {h : Held} → Fit b h → strays s (standing h (marksOf s b h)) (placesOf (length b) h) ≡ 0
+  pub stands-still : {h : State} → Fit b h → strays s (standing h (marksOf s b h)) (placesOf (length b) h) ≡ 0
   unfolding standing marksOf placesOf
   stands-still (fit-shut {r = r} g) = sym (same-moved s b (r .head) (r .len) (g .placed) (g .fits))
-  stands-still (fit-drawn {d = d} few g) = during-stands (d .head) (spread d) (g .whole .placed) (g .whole .fits) d
+  stands-still (fit-draining {d = d} few g) = during-stands (d .head) (spread d) (g .whole .placed) (g .whole .fits) d
 
 -- ---- a call that can change one queue
 
 -- what an outcome's moved count should be, where w stands after it
 abbrev pub Counted : Side → List Marked → Outcome → Type 0
-Counted s w o = o .answer .moved ≡ strays s w (placesOf (length (o .slots)) (o .answer .held))
+Counted s w o = o .answer .moved ≡ strays s w (placesOf (length (o .slots)) (o .answer .state))
 
 -- an accepted call, on the queue with the record r
 accepted-counted : (s : Side) (b : List ℕ) (r : Rec) (R : Rule) → MovedAt R s b r
@@ -101,7 +101,7 @@ during-all r x e l le le′ =
     rw (← drop-drop (e - x) x l) (ap (λ (m : List ℕ). take x l ++ m) (take-append-drop (e - x) (drop x l)) ∙ take-append-drop x l)
 
 opened-counted : (s : Side) (b : List ℕ) (r : Rec) → Good (length b) r → (x e : ℕ) → onTaking (length b) r x e ≡ 0
-    → Counted s (marksOf s b (shut r)) (unchanged b (drawn (opened r x e)) 0)
+    → Counted s (marksOf s b (shut r)) (unchanged b (draining (opened r x e)) 0)
 unfolding unchanged marksOf placesOf opened during
 opened-counted s b r g x e z =
     let o = opening-range (length b) r x e z in
@@ -109,12 +109,12 @@ opened-counted s b r g x e z =
 
 module _ (s : Side) (b : List ℕ) where
   -- nothing was done
-  same-counted : {h : Held} → Fit b h → Counted s (standing h (marksOf s b h)) (unchanged b h 0)
+  same-counted : {h : State} → Fit b h → Counted s (standing h (marksOf s b h)) (unchanged b h 0)
   unfolding unchanged
   same-counted f = sym (stands-still s b f)
 
   -- a call that was accepted, of the two outcomes that it may have
-  counted : (h : Held) (w : List Marked) (n : ℕ) (o : Outcome) → unless n o (unchanged b h n) .answer .refused ≡ 0
+  counted : (h : State) (w : List Marked) (n : ℕ) (o : Outcome) → unless n o (unchanged b h n) .answer .refused ≡ 0
       → (n ≡ 0 → Counted s w o) → Counted s w (unless n o (unchanged b h n))
   unfolding unchanged
   counted h w n o z f = when-accepted n o (unchanged b h n) (λ x. x .answer .refused) refl z (Counted s w) f
@@ -131,26 +131,26 @@ module _ (s : Side) (b : List ℕ) where
         → Counted s (marksOf s b (shut r)) (doOpen b r x e)
     unfolding doOpen
     opening-counted x e z =
-        counted (shut r) _ (onTaking (length b) r x e) (unchanged b (drawn (opened r x e)) 0) z
+        counted (shut r) _ (onTaking (length b) r x e) (unchanged b (draining (opened r x e)) 0) z
         (opened-counted s b r g x e)
 
     -- a record is made over elements from outside: none stood before
-    making-counted : (l : List ℕ) (n : ℕ)
-        → making b (shut r) (unless n (madeWith b l) (noneMade b n)) .answer .refused ≡ 0
-        → Counted s (map (marked .made) l) (making b (shut r) (unless n (madeWith b l) (noneMade b n)))
-    unfolding making noneMade madeWith unless
-    making-counted l zero z = sym (strays-made s l _)
-    making-counted l (suc n) z = absurd (suc-ne-zero n z)
+    make-counted : (l : List ℕ) (n : ℕ)
+        → doMake b (shut r) (unless n (madeWith b l) (noneMade b n)) .answer .refused ≡ 0
+        → Counted s (map (marked .brought) l) (doMake b (shut r) (unless n (madeWith b l) (noneMade b n)))
+    unfolding doMake noneMade madeWith unless
+    make-counted l zero z = sym (strays-made s l _)
+    make-counted l (suc n) z = absurd (suc-ne-zero n z)
 
-    fresh-counted : making b (shut r) (fresh b) .answer .refused ≡ 0 → Counted s [] (making b (shut r) (fresh b))
+    fresh-counted : doMake b (shut r) (fresh b) .answer .refused ≡ 0 → Counted s [] (doMake b (shut r) (fresh b))
     unfolding fresh
-    fresh-counted z = making-counted [] (onSlots (length b) 0) z
+    fresh-counted z = make-counted [] (onSlots (length b) 0) z
 
-    reading-counted : (x : List ℕ) → making b (shut r) (readImage b x) .answer .refused ≡ 0
-        → Counted s (map (marked .made) (elementsIn x)) (making b (shut r) (readImage b x))
+    reading-counted : (x : List ℕ) → doMake b (shut r) (readImage b x) .answer .refused ≡ 0
+        → Counted s (map (marked .brought) (elementsIn x)) (doMake b (shut r) (readImage b x))
     unfolding readImage
     reading-counted x z =
-        making-counted (elementsIn x) (onSlots (length b) (onLayout (laidOut x) (room (length b) (howMany x)))) z
+        make-counted (elementsIn x) (onSlots (length b) (onLayout (laidOut x) (room (length b) (howMany x)))) z
 
     -- each change of a queue
     pub change-counted : (k : QueueChange) → doOnQueue b r k .answer .refused ≡ 0
@@ -173,7 +173,7 @@ back-none d z = (omega arith, refl, refl)
 module _ (s : Side) (b : List ℕ) (d : Drain) (few : length b ≤ mostSlots) (g : GoodDrain (length b) d) where
   -- the drain, now d′, in the same list
   handing-counted : (d′ : Drain) (v : ℕ) → asOpened d′ ≡ asOpened d
-      → Counted s (during (marksOf s b (drawn d)) d′) (handsOver b d′ v)
+      → Counted s (during (marksOf s b (draining d)) d′) (handsOver b d′ v)
   unfolding handsOver marksOf placesOf during handable
   handing-counted d′ v same =
       sym (rw (ap (λ (k : Rec). k .len) same, ap (λ (k : Rec). k .head) same)
@@ -188,35 +188,35 @@ module _ (s : Side) (b : List ℕ) (d : Drain) (few : length b ≤ mostSlots) (g
 
   none-counted : (d′ : Drain) → d .remaining ≡ 0
       → (d′ .remaining ≡ 0) × (d′ .start ≡ d .start) × (d′ .drained ≡ d .drained)
-      → Counted s (during (marksOf s b (drawn d)) d′) (unchanged b (drawn d) 0)
+      → Counted s (during (marksOf s b (draining d)) d′) (unchanged b (draining d) 0)
   unfolding standing
-  none-counted d′ z same = rw (none-remains d′ z same (marksOf s b (drawn d))) (same-counted s b (fit-drawn few g))
+  none-counted d′ z same = rw (none-remains d′ z same (marksOf s b (draining d))) (same-counted s b (fit-draining few g))
 
-  next-counted : (n : ℕ) → d .remaining ≡ n → Counted s (during (marksOf s b (drawn d)) (fromFront d)) (nextOf b d n)
+  next-counted : (n : ℕ) → d .remaining ≡ n → Counted s (during (marksOf s b (draining d)) (fromFront d)) (nextOf b d n)
   unfolding nextOf
   next-counted zero e = none-counted (fromFront d) e (front-none d e)
   next-counted (suc n) e = handing-counted (fromFront d) _ (front-same d)
 
   next-back-counted : (n : ℕ) → d .remaining ≡ n
-      → Counted s (during (marksOf s b (drawn d)) (fromBack d)) (nextBackOf b d n)
+      → Counted s (during (marksOf s b (draining d)) (fromBack d)) (nextBackOf b d n)
   unfolding nextBackOf
   next-back-counted zero e = none-counted (fromBack d) e (back-none d e)
   next-back-counted (suc n) e = handing-counted (fromBack d) _ (back-same d)
 
   closed-counted : let R = closeDrain d in
-      Counted s (R .list Marked marked (marksOf s b (drawn d))) (accepted b (asOpened d) R)
+      Counted s (R .list Marked marked (marksOf s b (draining d))) (accepted b (asOpened d) R)
   unfolding marksOf
   closed-counted = accepted-counted s b (asOpened d) (closeDrain d) (close-moved s b d g)
 
   -- as the drain's record says
   asked-counted : (w : List Marked) (o : Outcome) → Counted s w o
-      → unless (onDrain (length b) d) o (unchanged b (drawn d) (onDrain (length b) d)) .answer .refused ≡ 0
-      → Counted s w (unless (onDrain (length b) d) o (unchanged b (drawn d) (onDrain (length b) d)))
-  asked-counted w o c z = counted s b (drawn d) w (onDrain (length b) d) o z (λ e. c)
+      → unless (onDrain (length b) d) o (unchanged b (draining d) (onDrain (length b) d)) .answer .refused ≡ 0
+      → Counted s w (unless (onDrain (length b) d) o (unchanged b (draining d) (onDrain (length b) d)))
+  asked-counted w o c z = counted s b (draining d) w (onDrain (length b) d) o z (λ e. c)
 
   -- each call of an open drain
   pub drain-counted : (k : DrainCall) → doOnDrain b d k .answer .refused ≡ 0
-      → Counted s (drainAfter d k (marksOf s b (drawn d))) (doOnDrain b d k)
+      → Counted s (drainAfter d k (marksOf s b (draining d))) (doOnDrain b d k)
   unfolding doOnDrain drainAfter doNext doNextBack doClose
   drain-counted next z = asked-counted _ _ (next-counted (d .remaining) refl) z
   drain-counted nextBack z = asked-counted _ _ (next-back-counted (d .remaining) refl) z

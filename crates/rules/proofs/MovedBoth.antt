@@ -16,18 +16,18 @@ use Rattle.rules.proofs.Places.{place-good}
 use Rattle.rules.proofs.Refusals.{Good}
 use Rattle.rules.proofs.Slots.{length-lay}
 use Rattle.rules.proofs.Taken.{by-taken}
-use Rattle.rules.proofs.Tests.{lt-or-ge, when-accepted}
+use Rattle.rules.proofs.Choices.{lt-or-ge, when-accepted}
 use Rattle.rules.specs.Asks.{Sight}
 use Rattle.rules.specs.Ends.{clear, truncate}
 use Rattle.rules.specs.Joins.{extendWith}
 use Rattle.rules.specs.Makes.{madeWith}
 use Rattle.rules.specs.Moves.{Marked, elsewhere, slotOf, strays, marksFrom, Marks, placesOf, marksBoth, standing, marksOf, queueAfter, placesFrom, pairAfter, bothAfter, takenAfter}
 use Rattle.rules.specs.Outcome.{shut, accepted, recAfter}
-use Rattle.rules.specs.Pairs.{onAppending, appended, crossing, onSplitting, splitted, Paired, doAppend, doSplit}
+use Rattle.rules.specs.Pairs.{onAppending, appended, crossing, onSplitting, splitted, PairOutcome, doAppend, doSplit}
 use Rattle.rules.specs.Places.{place}
 use Rattle.rules.specs.Records.{Rec, stepped, newRec}
 use Rattle.rules.specs.Sequences.{Side, sideA, sideB, CallStep, Queue, stillStep, QueueCall, queueStep, queueOf, oneStep, lookStep, changing, asking, bothStep, madeOr, stands, PairCall, pairStep, appending, splitting, comparing, Call, firstStep, takenStep}
-use Rattle.rules.specs.Tests.{unless}
+use Rattle.rules.specs.Choices.{unless}
 
 -- every element that stood in the other queue has moved
 module _ (d d′ : Side) (cross : (s p : ℕ) → elsewhere d (slotOf d′ s) p ≡ 1) where
@@ -48,20 +48,20 @@ a-in-b s p = refl
 -- what a step's moved count should be, where m stands after it
 abbrev pub CountedBoth : Marks → CallStep → Type 0
 CountedBoth m o =
-    o .moved ≡ strays sideA (m .ours) (placesOf (length (o .queues .a .slots)) (o .queues .a .held)) + strays sideB (m .theirs) (placesOf (length (o .queues .b .slots)) (o .queues .b .held))
+    o .moved ≡ strays sideA (m .ours) (placesOf (length (o .queues .a .slots)) (o .queues .a .state)) + strays sideB (m .theirs) (placesOf (length (o .queues .b .slots)) (o .queues .b .state))
 
 -- what stands in a queue before a call, marked
 abbrev before : Side → Queue → List Marked
-before d q = standing (q .held) (marksOf d (q .slots) (q .held))
+before d q = standing (q .state) (marksOf d (q .slots) (q .state))
 
 -- passed over, or a look: none moves
-still-counted : (p q : Queue) (n : ℕ) (s : Option Sight) → Fit (p .slots) (p .held) → Fit (q .slots) (q .held)
+still-counted : (p q : Queue) (n : ℕ) (s : Option Sight) → Fit (p .slots) (p .state) → Fit (q .slots) (q .state)
     → CountedBoth (marksBoth (before sideA p) (before sideB q)) (stillStep p q n s)
 unfolding stillStep
 still-counted p q n s f f′ = omega (arith, stands-still sideA (p .slots) f, stands-still sideB (q .slots) f′)
 
 -- each call on a queue
-queue-counted : (b : List ℕ) (r : Rec) (q : Queue) → Good (length b) r → Fit (q .slots) (q .held) → (k : QueueCall)
+queue-counted : (b : List ℕ) (r : Rec) (q : Queue) → Good (length b) r → Fit (q .slots) (q .state) → (k : QueueCall)
     → queueStep (queueOf b (shut r)) q r k .refused ≡ 0
     → CountedBoth (marksBoth (queueAfter k (marksOf sideA b (shut r))) (before sideB q))
     (queueStep (queueOf b (shut r)) q r k)
@@ -103,7 +103,7 @@ parted b h n i c′ good fits le =
     (lt-or-ge i n)
 
 step-refused : (b : List ℕ) (r : Rec) (b′ : List ℕ) (r′ : Rec) (n : ℕ) (x : Option Rec) (gone : List ℕ)
-    → bothStep (shut r′) (record { pairing = record { refused = n; moved = 0; rec = r; other = x }; slots = b; slots′ = b′ }) gone .refused ≡ n
+    → bothStep (shut r′) (record { answer = record { refused = n; moved = 0; rec = r; other = x }; slots = b; slots′ = b′ }) gone .refused ≡ n
 unfolding bothStep
 step-refused b r b′ r′ n x gone = refl
 
@@ -131,13 +131,13 @@ module _ (b : List ℕ) (r : Rec) (b′ : List ℕ) (r′ : Rec) where
       ))
 
   -- an accepted call, of the two outcomes that it may have
-  both-counted : (w : Marks) (n : ℕ) (x : Option Rec) (m : Paired) (gone : List ℕ)
-      → let no : Paired = record { pairing = record { refused = n; moved = 0; rec = r; other = x }; slots = b; slots′ = b′ } in
+  both-counted : (w : Marks) (n : ℕ) (x : Option Rec) (m : PairOutcome) (gone : List ℕ)
+      → let no : PairOutcome = record { answer = record { refused = n; moved = 0; rec = r; other = x }; slots = b; slots′ = b′ } in
       bothStep (shut r′) (unless n m no) gone .refused ≡ 0 → (n ≡ 0 → CountedBoth w (bothStep (shut r′) m gone))
       → CountedBoth w (bothStep (shut r′) (unless n m no) gone)
   both-counted w n x m gone z f =
-      when-accepted n m _ (λ (y : Paired). bothStep (shut r′) y gone .refused) (step-refused b r b′ r′ n x gone) z
-      (λ (y : Paired). CountedBoth w (bothStep (shut r′) y gone)) f
+      when-accepted n m _ (λ (y : PairOutcome). bothStep (shut r′) y gone .refused) (step-refused b r b′ r′ n x gone) z
+      (λ (y : PairOutcome). CountedBoth w (bothStep (shut r′) y gone)) f
 
   -- each call on both
   pair-counted : Good (length b) r → Good (length b′) r′ → (k : PairCall)
@@ -154,9 +154,9 @@ module _ (b : List ℕ) (r : Rec) (b′ : List ℕ) (r′ : Rec) where
       still-counted (queueOf b (shut r)) (queueOf b′ (shut r′)) _ _ (fit-shut g) (fit-shut g′)
 
 -- each call on the first queue, of its drain, and on both
-pub first-counted : (p q : Queue) → Fit (p .slots) (p .held) → Fit (q .slots) (q .held) → (k : Call)
+pub first-counted : (p q : Queue) → Fit (p .slots) (p .state) → Fit (q .slots) (q .state) → (k : Call)
     → firstStep p q k .refused ≡ 0
-    → let m = bothAfter (p .held) (q .held) k (marksOf sideA (p .slots) (p .held)) (marksOf sideB (q .slots) (q .held)) in
+    → let m = bothAfter (p .state) (q .state) k (marksOf sideA (p .slots) (p .state)) (marksOf sideB (q .slots) (q .state)) in
     CountedBoth m (firstStep p q k)
 unfolding firstStep takenStep bothAfter takenAfter oneStep
 first-counted p q f f′ k =

@@ -12,7 +12,7 @@ use Rattle.rules.proofs.Marks.{length-marks, marks-none, strays-none, n
 use Rattle.rules.proofs.Moved.{MovedTrue, behind-moved, cut-behind, front-moved, drop-moved, take-moved, take-most, same-moved}
 use Rattle.rules.proofs.Places.{stepBack-good, place-zero, step-back-on}
 use Rattle.rules.proofs.Refusals.{change-ok, room-ok, Good}
-use Rattle.rules.proofs.Tests.{by-test, neqb→ne, by-test₃, by-test₂}
+use Rattle.rules.proofs.Choices.{by-test, neqb→ne, by-test₃, by-test₂}
 use Rattle.rules.specs.Conditions.{passes, Test, meets}
 use Rattle.rules.specs.Ends.{pushBack, pushFront, popFront, popBack, truncate, truncateFront, clear, popFrontIf, popBackIf}
 use Rattle.rules.specs.Moves.{marksFrom, marked, strays, placesFrom, Marked}
@@ -20,7 +20,7 @@ use Rattle.rules.specs.Outcome.{refusal, recAfter}
 use Rattle.rules.specs.Places.{stepBack, place}
 use Rattle.rules.specs.Records.{Rec, stepped, held}
 use Rattle.rules.specs.Sequences.{Side}
-use Rattle.rules.specs.Tests.{whether}
+use Rattle.rules.specs.Choices.{whether}
 
 module _ (d : Side) (b : List ℕ) (r : Rec) where
   all-marks : length (marksFrom d (length b) b (r .head) (r .len)) ≡ r .len
@@ -31,7 +31,7 @@ unfolding refusal recAfter stepped pushBack
 pushBack-moved v d b r e =
     let q = change-ok (length b) r _ e in
     behind-moved d b (r .head) (r .len) (q .0 .placed) (q .0 .fits) _ (r .len + 1) (r .len) (v ∷ [])
-    (cut-behind _ (r .len) (all-marks d b r) (map (marked .made) (v ∷ []))) (omega arith) refl (room-ok (length b) (r .len + 1) (q .1))
+    (cut-behind _ (r .len) (all-marks d b r) (map (marked .brought) (v ∷ []))) (omega arith) refl (room-ok (length b) (r .len + 1) (q .1))
 
 pub pushFront-moved : (v : ℕ) → MovedTrue (pushFront v)
 unfolding refusal recAfter stepped pushFront

@@ -10,7 +10,7 @@ use Rattle.rules.proofs.Marks.{length-marks, stretch-stays}
 use Rattle.rules.proofs.Moved.{MovedTrue, behind-moved, cut-behind, front-moved, take-most, cut-first, cut-moved, goes, head-goes, same-moved}
 use Rattle.rules.proofs.Places.{stepBack-good, place-zero, step-back-on, place-place, place-good}
 use Rattle.rules.proofs.Refusals.{change-ok, room-ok}
-use Rattle.rules.proofs.Tests.{passed, by-test₂, by-test₃}
+use Rattle.rules.proofs.Choices.{passed, by-test₂, by-test₃}
 use Rattle.rules.specs.Joins.{extendWith, prepend, extendFront, resize}
 use Rattle.rules.specs.Middle.{insertAt, removeAt}
 use Rattle.rules.specs.Moves.{marked, Marked, marksFrom, strays, placesFrom}
@@ -25,7 +25,7 @@ unfolding refusal recAfter stepped extendWith
 extend-moved vs d b r e =
     let q = change-ok (length b) r _ e in
     behind-moved d b (r .head) (r .len) (q .0 .placed) (q .0 .fits) _ (r .len + length vs) (r .len) vs
-    (cut-behind _ (r .len) (length-marks d (length b) b (r .head) (r .len)) (map (marked .made) vs)) (omega arith) refl (room-ok (length b) (r .len + length vs) (q .1))
+    (cut-behind _ (r .len) (length-marks d (length b) b (r .head) (r .len)) (map (marked .brought) vs)) (omega arith) refl (room-ok (length b) (r .len + length vs) (q .1))
 
 pub prepend-moved : (vs : List ℕ) → MovedTrue (prepend vs)
 unfolding refusal recAfter stepped prepend
@@ -40,9 +40,9 @@ pub extendFront-moved : (vs : List ℕ) → MovedTrue (extendFront vs)
 unfolding extendFront
 extendFront-moved vs = prepend-moved (reverse vs)
 
-map-replicate : (n v : ℕ) → replicate n (marked .made v) ≡ map (marked .made) (replicate n v)
+map-replicate : (n v : ℕ) → replicate n (marked .brought v) ≡ map (marked .brought) (replicate n v)
 map-replicate zero v = refl
-map-replicate (suc n) v = ap (λ (l : List Marked). marked .made v ∷ l) (map-replicate n v)
+map-replicate (suc n) v = ap (λ (l : List Marked). marked .brought v ∷ l) (map-replicate n v)
 
 pub resize-moved : (m v : ℕ) → MovedTrue (resize m v)
 unfolding refusal recAfter stepped resize
@@ -52,7 +52,7 @@ resize-moved m v d b r e =
     let long = length-marks d (length b) b (r .head) (r .len) in
     rw (long, map-replicate, take-most w (r .len) long m)
     (behind-moved d b (r .head) (r .len) (q .0 .placed) (q .0 .fits) _ m (min m (r .len)) (replicate (m - r .len) v)
-    (cut-first w (r .len) long (min m (r .len)) (map (marked .made) (replicate (m - r .len) v))) (omega arith) (rw length-replicate (omega arith)) (room-ok (length b) m (q .1)))
+    (cut-first w (r .len) long (min m (r .len)) (map (marked .brought) (replicate (m - r .len) v))) (omega arith) (rw length-replicate (omega arith)) (room-ok (length b) m (q .1)))
 
 -- ---- the shorter side moves
 
@@ -67,7 +67,7 @@ insert-moved i v d b r e =
     let c = length b in
     let h = r .head in
     let n = r .len in
-    by-test₂ (ltb (n - i) i) (λ m h′. m ≡ strays d (take i (marksFrom d c b h n) ++ (marked .made v ∷ drop i (marksFrom d c b h n))) (placesFrom c h′ (n + 1)))
+    by-test₂ (ltb (n - i) i) (λ m h′. m ≡ strays d (take i (marksFrom d c b h n) ++ (marked .brought v ∷ drop i (marksFrom d c b h n))) (placesFrom c h′ (n + 1)))
     (λ t. cut-moved d b h n (g .placed) (g .fits) _ h (n + 1) (n - i) i i (v ∷ []) refl (g .placed) (omega arith) le (omega arith) room
     (λ k k′. omega (arith, stretch-stays h h i refl, goes c h k i (i + 1) (n - i) (λ lt. (omega arith, omega arith, (λ z. omega arith))))) (λ z. omega arith))
     (λ t. let h′ = stepBack c h 1 in

@@ -11,7 +11,7 @@ use Rattle.rules.proofs.Marks.{own-slot, strays-none}
 use Rattle.rules.proofs.Moved.{MovedTrue}
 use Rattle.rules.proofs.Places.{place-place, place-moved, place-low}
 use Rattle.rules.proofs.Refusals.{change-ok, Good}
-use Rattle.rules.proofs.Tests.{by-test₂, by-test₃}
+use Rattle.rules.proofs.Choices.{by-test₂, by-test₃}
 use Rattle.rules.specs.Conditions.{those, behind, Test, meets}
 use Rattle.rules.specs.Count.{one-if}
 use Rattle.rules.specs.Middle.{retain}

@@ -12,7 +12,7 @@ use Rattle.rules.proofs.Marks.{stretch-none, stretch-stays}
 use Rattle.rules.proofs.Moved.{cut-moved, goes, head-goes, MovedTrue, MovedAt}
 use Rattle.rules.proofs.Places.{place-good, place-place}
 use Rattle.rules.proofs.Refusals.{change-ok, range-ok, room-ok}
-use Rattle.rules.proofs.Tests.{cases, by-test, is-true, is-false, by-test₂, neqb→ne}
+use Rattle.rules.proofs.Choices.{cases, by-test, is-true, is-false, by-test₂, neqb→ne}
 use Rattle.rules.specs.Drains.{Drain, closedMoved, keptList, closedHead, closeDrain, asOpened}
 use Rattle.rules.specs.Moves.{strays, marksFrom, marked, placesFrom}
 use Rattle.rules.specs.Outcome.{refusal, recAfter}
@@ -20,12 +20,12 @@ use Rattle.rules.specs.Places.{place}
 use Rattle.rules.specs.Records.{stepped}
 use Rattle.rules.specs.Sequences.{Side}
 use Rattle.rules.specs.Splice.{splice}
-use Rattle.rules.specs.Tests.{whether}
+use Rattle.rules.specs.Choices.{whether}
 
 -- the first s elements, then vs from outside, then those from position e on, laid from h′ on: m of them stand elsewhere
 abbrev pub Spliced : Side → List ℕ → ℕ → ℕ → ℕ → ℕ → List ℕ → ℕ → ℕ → Type 0
 Spliced d b h n s e vs m h′ =
-    m ≡ strays d (take s (marksFrom d (length b) b h n) ++ (map (marked .made) vs ++ drop e (marksFrom d (length b) b h n))) (placesFrom (length b) h′ (s + length vs + (n - e)))
+    m ≡ strays d (take s (marksFrom d (length b) b h n) ++ (map (marked .brought) vs ++ drop e (marksFrom d (length b) b h n))) (placesFrom (length b) h′ (s + length vs + (n - e)))
 
 module _ (d : Side) (b : List ℕ) (h n : ℕ) (good : h ≤ length b - 1) (fits : n ≤ length b) where
   module _ (s e : ℕ) (vs : List ℕ) (le : s ≤ e) (le′ : e ≤ n) (room : s + length vs + (n - e) ≤ length b) where

@@ -14,7 +14,7 @@ use Rattle.rules.proofs.Marks.{origin-at, own-slot, length-marks, lengt
 use Rattle.rules.proofs.Moved.{same-moved, MovedTrue, drop-moved, take-moved}
 use Rattle.rules.proofs.Places.{places-apart, place-low, place-place}
 use Rattle.rules.proofs.Refusals.{change-ok}
-use Rattle.rules.proofs.Tests.{passed, by-test, neqb→ne, by-test₄, by-test₃}
+use Rattle.rules.proofs.Choices.{passed, by-test, neqb→ne, by-test₄, by-test₃}
 use Rattle.rules.specs.Count.{one-if}
 use Rattle.rules.specs.Ends.{exchange, swapRemoveFront, swapRemoveBack}
 use Rattle.rules.specs.Moves.{Marked, marked, elsewhere, marksFrom, strays, placesFrom}
@@ -24,7 +24,7 @@ use Rattle.rules.specs.Records.{stepped}
 use Rattle.rules.specs.Sequences.{Side}
 
 abbrev zeroth : Marked
-zeroth = marked .made 0
+zeroth = marked .brought 0
 
 module _ (d : Side) (b : List ℕ) (h n : ℕ) (in-ring : h < length b) (fits : n ≤ length b) where
   -- the element of position j, in the slot of position i

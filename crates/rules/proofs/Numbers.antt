@@ -5,7 +5,7 @@ use mathlib.Core.Path.{_≡_, refl, ap}
 use Prim.Native.Nat.{ℕ, zero, suc, _-_}
 use lib.ListN.{take, drop, set, getD, replicate, length-map, length}
 use Rattle.rules.proofs.MovedEnds.{passes-number}
-use Rattle.rules.proofs.Tests.{by-test₂}
+use Rattle.rules.proofs.Choices.{by-test₂}
 use Rattle.rules.specs.Calls.{Op, rule, pushBack!, pushFront!, popFront!, popBack!, popFrontIf!, popBackIf!, truncate!, truncateFront!, clear!, extend!, prepend!, extendFront!, resize!, insert!, remove!, swap!, swapRemoveFront!, swapRemoveBack!, retain!, splice! }
 use Rattle.rules.specs.Conditions.{those, meets}
 use Rattle.rules.specs.Ends.{pushBack, pushFront, popFront, popBack, popFrontIf, popBackIf, truncate, truncateFront, clear, exchange, swapRemoveFront, swapRemoveBack}
@@ -14,7 +14,7 @@ use Rattle.rules.specs.Middle.{insertAt, removeAt, retain}
 use Rattle.rules.specs.Moves.{Marked, marked}
 use Rattle.rules.specs.Rule.{Rule, after, numbers}
 use Rattle.rules.specs.Splice.{splice}
-use Rattle.rules.specs.Tests.{whether}
+use Rattle.rules.specs.Choices.{whether}
 
 abbrev pub number-of : Marked → ℕ
 number-of e = e .number
@@ -36,7 +36,7 @@ map-rest zero l = refl
 map-rest (suc n) [] = refl
 map-rest (suc n) (e ∷ l) = map-rest n l
 
-pub made-numbers : (vs : List ℕ) → map number-of (map (marked .made) vs) ≡ map (numbers .made) vs
+pub made-numbers : (vs : List ℕ) → map number-of (map (marked .brought) vs) ≡ map (numbers .brought) vs
 made-numbers [] = refl
 made-numbers (v ∷ vs) = ap (λ (x : List ℕ). v ∷ x) (made-numbers vs)
 
@@ -45,12 +45,12 @@ map-put [] i e = refl
 map-put (x ∷ l) zero e = refl
 map-put (x ∷ l) (suc i) e = ap (λ (y : List ℕ). number-of x ∷ y) (map-put l i e)
 
-map-at : (l : List Marked) (i : ℕ) → number-of (getD l i (marked .made 0)) ≡ getD (map number-of l) i 0
+map-at : (l : List Marked) (i : ℕ) → number-of (getD l i (marked .brought 0)) ≡ getD (map number-of l) i 0
 map-at [] i = refl
 map-at (x ∷ l) zero = refl
 map-at (x ∷ l) (suc i) = map-at l i
 
-map-copies : (n v : ℕ) → map number-of (replicate n (marked .made v)) ≡ replicate n v
+map-copies : (n v : ℕ) → map number-of (replicate n (marked .brought v)) ≡ replicate n v
 map-copies zero v = refl
 map-copies (suc n) v = ap (λ (x : List ℕ). v ∷ x) (map-copies n v)
 

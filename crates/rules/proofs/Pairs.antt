@@ -9,7 +9,7 @@ use Rattle.rules.proofs.Fit.{op-leaves, Leaves}
 use Rattle.rules.proofs.Held.{length-held}
 use Rattle.rules.proofs.Joins.{extend-lawful}
 use Rattle.rules.proofs.Refusals.{Good, change-ok, room-ok, slots-ok}
-use Rattle.rules.proofs.Tests.{passed}
+use Rattle.rules.proofs.Choices.{passed}
 use Rattle.rules.specs.Ends.{clear, truncate}
 use Rattle.rules.specs.Joins.{extendWith}
 use Rattle.rules.specs.Outcome.{refusal}

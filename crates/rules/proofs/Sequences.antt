@@ -14,12 +14,12 @@ use Rattle.rules.specs.Records.{newRec}
 use Rattle.rules.specs.Sequences.{Pair, stands, Turn, run, timesEntered, timesLeft, step}
 
 pub record Kept (s e : Pair) (entered left : ℕ → ℕ) : Type 0 where
-  pub fit-a : Fit (e .a .slots) (e .a .held)
-  pub fit-b : Fit (e .b .slots) (e .b .held)
-  pub balance : (x : ℕ) → tally x (stands (s .a .slots) (s .a .held)) + tally x (stands (s .b .slots) (s .b .held)) + entered x
-      ≡ tally x (stands (e .a .slots) (e .a .held)) + tally x (stands (e .b .slots) (e .b .held)) + left x
+  pub fit-a : Fit (e .a .slots) (e .a .state)
+  pub fit-b : Fit (e .b .slots) (e .b .state)
+  pub balance : (x : ℕ) → tally x (stands (s .a .slots) (s .a .state)) + tally x (stands (s .b .slots) (s .b .state)) + entered x
+      ≡ tally x (stands (e .a .slots) (e .a .state)) + tally x (stands (e .b .slots) (e .b .state)) + left x
 
-pub run-keeps : (s : Pair) → Fit (s .a .slots) (s .a .held) → Fit (s .b .slots) (s .b .held) → (ts : List Turn)
+pub run-keeps : (s : Pair) → Fit (s .a .slots) (s .a .state) → Fit (s .b .slots) (s .b .state) → (ts : List Turn)
     → Kept s (run s ts) (λ x. timesEntered x s ts) (λ x. timesLeft x s ts)
 unfolding run timesEntered timesLeft
 run-keeps s f f′ [] = record { fit-a = f; fit-b = f′; balance = λ x. refl }

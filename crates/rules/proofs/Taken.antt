@@ -3,35 +3,35 @@ use mathlib.Core.List.{List}
 use Prim.Native.Nat.{ℕ, _≤_}
 use lib.ListN.{length}
 use Rattle.rules.proofs.Drains.{GoodDrain}
-use Rattle.rules.proofs.Fit.{Fit, fit-shut, fit-drawn}
+use Rattle.rules.proofs.Fit.{Fit, fit-shut, fit-draining}
 use Rattle.rules.proofs.Refusals.{Good}
 use Rattle.rules.specs.Drains.{Drain}
-use Rattle.rules.specs.Outcome.{Held, shut, drawn}
+use Rattle.rules.specs.Outcome.{State, shut, draining}
 use Rattle.rules.specs.Records.{Rec}
 use Rattle.rules.specs.Refusals.{mostSlots}
-use Rattle.rules.specs.Sequences.{Call, Taken, passedOver, QueueCall, queueTaken, DrainCall, drainTaken, PairCall, bothTaken, takes, ifShut, ifDrawn, ofQueue, ofDrain, ofBoth}
+use Rattle.rules.specs.Sequences.{Call, Taken, passedOver, QueueCall, queueTaken, DrainCall, drainTaken, PairCall, bothTaken, takes, ifShut, ifDraining, ofQueue, ofDrain, ofBoth}
 
 -- what holds where a call is passed over, and where it takes what it asks for, holds of every call
-pub by-taken : {b : List ℕ} {h : Held} {b′ : List ℕ} {h′ : Held} → Fit b h → Fit b′ h′
-    → (k : Call) (P : Held → Held → Taken → Type 0)
+pub by-taken : {b : List ℕ} {h : State} {b′ : List ℕ} {h′ : State} → Fit b h → Fit b′ h′
+    → (k : Call) (P : State → State → Taken → Type 0)
     → P h h′ passedOver
     → ((r : Rec) → Good (length b) r → (k : QueueCall) → P (shut r) h′ (queueTaken r k))
-    → ((d : Drain) → length b ≤ mostSlots → GoodDrain (length b) d → (k : DrainCall) → P (drawn d) h′ (drainTaken d k))
+    → ((d : Drain) → length b ≤ mostSlots → GoodDrain (length b) d → (k : DrainCall) → P (draining d) h′ (drainTaken d k))
     → ((r r′ : Rec) → Good (length b) r → Good (length b′) r′ → (k : PairCall)
     → P (shut r) (shut r′) (bothTaken r r′ k))
     → P h h′ (takes h h′ k)
-unfolding takes ifShut ifDrawn
+unfolding takes ifShut ifDraining
 by-taken (fit-shut g) f′ (ofQueue k) P over queue drain both = queue _ g k
-by-taken (fit-drawn few g) f′ (ofQueue k) P over queue drain both = over
+by-taken (fit-draining few g) f′ (ofQueue k) P over queue drain both = over
 by-taken (fit-shut g) f′ (ofDrain k) P over queue drain both = over
-by-taken (fit-drawn few g) f′ (ofDrain k) P over queue drain both = drain _ few g k
+by-taken (fit-draining few g) f′ (ofDrain k) P over queue drain both = drain _ few g k
 by-taken (fit-shut g) (fit-shut g′) (ofBoth k) P over queue drain both = both _ _ g g′ k
-by-taken (fit-shut g) (fit-drawn few′ g′) (ofBoth k) P over queue drain both = over
-by-taken (fit-drawn few g) f′ (ofBoth k) P over queue drain both = over
+by-taken (fit-shut g) (fit-draining few′ g′) (ofBoth k) P over queue drain both = over
+by-taken (fit-draining few g) f′ (ofBoth k) P over queue drain both = over
 
 -- what holds of a and of f holds of the choice by what is held
-pub by-shut : {A : Type 0} {a : A} {f : Rec → A} (h : Held) (P : A → Type 0) → P a → ((r : Rec) → P (f r))
+pub by-shut : {A : Type 0} {a : A} {f : Rec → A} (h : State) (P : A → Type 0) → P a → ((r : Rec) → P (f r))
     → P (ifShut a f h)
 unfolding ifShut
 by-shut (shut r) P o k = k r
-by-shut (drawn d) P o k = o
+by-shut (draining d) P o k = o

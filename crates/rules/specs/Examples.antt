@@ -6,7 +6,7 @@ use Rattle.rules.specs.Conditions.{below}
 use Rattle.rules.specs.Images.{imageOf}
 use Rattle.rules.specs.Journals.{closing}
 use Rattle.rules.specs.Looks.{Look, refuses, sees}
-use Rattle.rules.specs.Outcome.{Held, shut, drawn, Outcome, doRule, doOpen}
+use Rattle.rules.specs.Outcome.{State, shut, draining, Outcome, doRule, doOpen}
 use Rattle.rules.specs.Records.{Rec, recAt, newRec}
 use Rattle.rules.specs.Runs.{TwoRuns, lookRuns}
 use Rattle.rules.specs.Search.{Spot, foundAt, placeAt, searchFor}
@@ -14,19 +14,19 @@ use Rattle.rules.specs.Search.{Spot, foundAt, placeAt, searchFor}
 -- a call, a drain opened and closed, the runs of a range, a search, an image
 pub data Case : Type 0 where
   calling : List ℕ → Rec → Op → Case
-  draining : List ℕ → Rec → ℕ → ℕ → Case
+  drainAndClose : List ℕ → Rec → ℕ → ℕ → Case
   running : List ℕ → Rec → ℕ → ℕ → Case
   searching : List ℕ → Rec → ℕ → Case
   imaging : List ℕ → Case
 
 -- a record's numbers
-unfoldable pub recNumbers : Held → List ℕ
+unfoldable pub recNumbers : State → List ℕ
 recNumbers (shut r) = r .head ∷ r .len ∷ []
-recNumbers (drawn d) = d .head ∷ d .start ∷ d .drained ∷ d .idx ∷ d .tail ∷ d .remaining ∷ []
+recNumbers (draining d) = d .head ∷ d .start ∷ d .drained ∷ d .idx ∷ d .tail ∷ d .remaining ∷ []
 
 -- refusal, moved, head and len, and every slot
 unfoldable pub row : Outcome → List ℕ
-row o = o .answer .refused ∷ o .answer .moved ∷ (recNumbers (o .answer .held) ++ o .slots)
+row o = o .answer .refused ∷ o .answer .moved ∷ (recNumbers (o .answer .state) ++ o .slots)
 
 -- refusal, and the two runs' four ends
 unfoldable pub runsRow : Look TwoRuns → List ℕ
@@ -42,7 +42,7 @@ spotRow (sees (placeAt p)) = 0 ∷ 0 ∷ p ∷ []
 -- what the definitions give for a case
 unfoldable pub ruled : Case → List ℕ
 ruled (calling b r o) = row (doRule b r (rule o))
-ruled (draining b r s e) = row (closing (doOpen b r s e))
+ruled (drainAndClose b r s e) = row (closing (doOpen b r s e))
 ruled (running b r s e) = runsRow (lookRuns b r s e)
 ruled (searching b r x) = spotRow (searchFor b r x)
 ruled (imaging l) = imageOf l
@@ -68,15 +68,15 @@ examples =
     -- 1. Q whole: runs 6..8 and 0..3
     line (running slotsQ recQ 0 5) (0 ∷ 6 ∷ 8 ∷ 0 ∷ 3 ∷ [])
     -- 2. drain 1..3 closed: head 0, a d e in slots 0, 1, 2; slots 6, 7 still a, b; moved 1
-    ∷ line (draining slotsQ recQ 1 3) (0 ∷ 1 ∷ 0 ∷ 3 ∷ 1 ∷ 4 ∷ 5 ∷ 91 ∷ 92 ∷ 93 ∷ 1 ∷ 2 ∷ [])
+    ∷ line (drainAndClose slotsQ recQ 1 3) (0 ∷ 1 ∷ 0 ∷ 3 ∷ 1 ∷ 4 ∷ 5 ∷ 91 ∷ 92 ∷ 93 ∷ 1 ∷ 2 ∷ [])
     -- 3. drain 2..3: tie; head 6, a b d e, moved 2
-    ∷ line (draining slotsQ recQ 2 3) (0 ∷ 2 ∷ 6 ∷ 4 ∷ 4 ∷ 5 ∷ 5 ∷ 91 ∷ 92 ∷ 93 ∷ 1 ∷ 2 ∷ [])
+    ∷ line (drainAndClose slotsQ recQ 2 3) (0 ∷ 2 ∷ 6 ∷ 4 ∷ 4 ∷ 5 ∷ 5 ∷ 91 ∷ 92 ∷ 93 ∷ 1 ∷ 2 ∷ [])
     -- 4. drain 0..5: head 0, len 0, moved 0
-    ∷ line (draining slotsQ recQ 0 5) (0 ∷ 0 ∷ 0 ∷ 0 ∷ 3 ∷ 4 ∷ 5 ∷ 91 ∷ 92 ∷ 93 ∷ 1 ∷ 2 ∷ [])
+    ∷ line (drainAndClose slotsQ recQ 0 5) (0 ∷ 0 ∷ 0 ∷ 0 ∷ 3 ∷ 4 ∷ 5 ∷ 91 ∷ 92 ∷ 93 ∷ 1 ∷ 2 ∷ [])
     -- 5. drain 3..5: head 6, len 3, moved 0
-    ∷ line (draining slotsQ recQ 3 5) (0 ∷ 0 ∷ 6 ∷ 3 ∷ 3 ∷ 4 ∷ 5 ∷ 91 ∷ 92 ∷ 93 ∷ 1 ∷ 2 ∷ [])
+    ∷ line (drainAndClose slotsQ recQ 3 5) (0 ∷ 0 ∷ 6 ∷ 3 ∷ 3 ∷ 4 ∷ 5 ∷ 91 ∷ 92 ∷ 93 ∷ 1 ∷ 2 ∷ [])
     -- 6. drain 2..2: unchanged, moved 0
-    ∷ line (draining slotsQ recQ 2 2) (0 ∷ 0 ∷ 6 ∷ 5 ∷ 3 ∷ 4 ∷ 5 ∷ 91 ∷ 92 ∷ 93 ∷ 1 ∷ 2 ∷ [])
+    ∷ line (drainAndClose slotsQ recQ 2 2) (0 ∷ 0 ∷ 6 ∷ 5 ∷ 3 ∷ 4 ∷ 5 ∷ 91 ∷ 92 ∷ 93 ∷ 1 ∷ 2 ∷ [])
     -- 7. truncate_front 3: head 0. 4: head 7. 0: head 3, len 0
     ∷ line (calling slotsQ recQ (truncateFront! 3)) (0 ∷ 0 ∷ 0 ∷ 3 ∷ 3 ∷ 4 ∷ 5 ∷ 91 ∷ 92 ∷ 93 ∷ 1 ∷ 2 ∷ [])
     ∷ line (calling slotsQ recQ (truncateFront! 4)) (0 ∷ 0 ∷ 7 ∷ 4 ∷ 3 ∷ 4 ∷ 5 ∷ 91 ∷ 92 ∷ 93 ∷ 1 ∷ 2 ∷ [])

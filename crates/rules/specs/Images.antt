@@ -7,7 +7,7 @@ use lib.ListN.{length, take, getD, drop}
 use Rattle.rules.specs.Looks.{Look, looked}
 use Rattle.rules.specs.Records.{Rec, held}
 use Rattle.rules.specs.Refusals.{onQueue, room}
-use Rattle.rules.specs.Tests.{unless}
+use Rattle.rules.specs.Choices.{unless}
 
 -- two bytes, and four bytes, big-endian
 unfoldable pub twoBytes : ℕ → List ℕ

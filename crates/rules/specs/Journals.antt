@@ -7,9 +7,9 @@ use lib.ListN.{take, drop, length, getD}
 use Rattle.rules.specs.Ends.{pushBack, pushFront, popFront, popBack, truncate, truncateFront}
 use Rattle.rules.specs.Images.{bigEndian, version}
 use Rattle.rules.specs.Middle.{insertAt, removeAt}
-use Rattle.rules.specs.Outcome.{Outcome, shut, drawn, doClose, doRule, doOpen}
+use Rattle.rules.specs.Outcome.{Outcome, shut, draining, doClose, doRule, doOpen}
 use Rattle.rules.specs.Records.{Rec}
-use Rattle.rules.specs.Tests.{whether}
+use Rattle.rules.specs.Choices.{whether}
 
 -- the nine operations of a journal
 pub data Entry : Type 0 where
@@ -67,7 +67,7 @@ recordAt s p =
 
 -- a drain that is closed as soon as it is open
 unfoldable pub closing : Outcome → Outcome
-closing o = elim (o .answer .held) [ shut r ↦ o | drawn d ↦ doClose (o .slots) d ]
+closing o = elim (o .answer .state) [ shut r ↦ o | draining d ↦ doClose (o .slots) d ]
 
 -- what an operation does to a queue
 unfoldable pub doEntry : List ℕ → Rec → Entry → Outcome

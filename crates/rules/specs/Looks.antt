@@ -7,7 +7,7 @@ use lib.Dec.{eqb, ltb}
 use lib.ListN.{length, getElem?}
 use Rattle.rules.specs.Records.{Rec, held}
 use Rattle.rules.specs.Refusals.{onQueue}
-use Rattle.rules.specs.Tests.{unless, whether}
+use Rattle.rules.specs.Choices.{unless, whether}
 
 -- the refusal number, or what was seen
 pub data Look (A : Type 0) : Type 0 where

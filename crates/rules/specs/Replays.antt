@@ -5,9 +5,9 @@ use Prim.Native.Nat.{ℕ, zero, suc, _+_, _/_, _%_}
 use lib.Dec.{ltb}
 use lib.ListN.{length, replicate}
 use Rattle.rules.specs.Journals.{Entry, doPushBack, doPushFront, doPopFront, doPopBack, doDrain, doTruncate, doTruncateFront, doInsert, doRemove, recordAt, taken, doEntry, broken, cut, ended}
-use Rattle.rules.specs.Outcome.{Held, shut, drawn, Answer}
+use Rattle.rules.specs.Outcome.{State, shut, draining, Answer}
 use Rattle.rules.specs.Records.{Rec, held, newRec}
-use Rattle.rules.specs.Tests.{whether}
+use Rattle.rules.specs.Choices.{whether}
 
 abbrev pub space : ℕ
 space = 32
@@ -51,13 +51,13 @@ handedWord (doInsert i v) a = []
 handedWord (doRemove i) a = numberOrNone a ∷ []
 
 -- the record that an answer gives, or r where a drain is open
-unfoldable pub recOr : Rec → Held → Rec
+unfoldable pub recOr : Rec → State → Rec
 recOr r (shut r′) = r′
-recOr r (drawn d) = r
+recOr r (draining d) = r
 
 -- per record: refusal (0 if none), moved, head, len, and for 3, 4, 9 the number or `none`, parted by one space
 unfoldable pub answerLine : Rec → Entry → Answer → List ℕ
-answerLine r e a = lineOf (decimal (a .refused)) (decimal (a .moved) ∷ decimal (recOr r (a .held) .head) ∷ decimal (recOr r (a .held) .len) ∷ handedWord e (a .handed))
+answerLine r e a = lineOf (decimal (a .refused)) (decimal (a .moved) ∷ decimal (recOr r (a .state) .head) ∷ decimal (recOr r (a .state) .len) ∷ handedWord e (a .handed))
 
 -- a broken, unknown or cut record: `5 0`, head and len
 unfoldable pub brokenLine : Rec → List ℕ
@@ -71,7 +71,7 @@ endLine b r = lineOf (101 ∷ 110 ∷ 100 ∷ []) (map decimal (held b r))
 unfoldable pub replayed : ℕ → List ℕ → ℕ → List ℕ → Rec → List ℕ
 replayed zero s p b r = endLine b r
 replayed (suc k) s p b r = elim (recordAt s p) [
-  | taken e p′ ↦ (let o = doEntry b r e in answerLine r e (o .answer) ++ replayed k s p′ (o .slots) (recOr r (o .answer .held)))
+  | taken e p′ ↦ (let o = doEntry b r e in answerLine r e (o .answer) ++ replayed k s p′ (o .slots) (recOr r (o .answer .state)))
   | broken ↦ brokenLine r ++ endLine b r
   | cut ↦ brokenLine r ++ endLine b r
   | ended ↦ endLine b r

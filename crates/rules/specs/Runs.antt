@@ -7,7 +7,7 @@ use Rattle.rules.specs.Looks.{Look, looked}
 use Rattle.rules.specs.Places.{place}
 use Rattle.rules.specs.Records.{Rec}
 use Rattle.rules.specs.Refusals.{onRange}
-use Rattle.rules.specs.Tests.{whether, unless}
+use Rattle.rules.specs.Choices.{whether, unless}
 
 -- from a to before e
 pub record Span : Type 0 where

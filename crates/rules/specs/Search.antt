@@ -9,7 +9,7 @@ use Rattle.rules.specs.Looks.{Look, looked}
 use Rattle.rules.specs.Records.{Rec}
 use Rattle.rules.specs.Refusals.{onQueue}
 use Rattle.rules.specs.Runs.{frontRun, backRun}
-use Rattle.rules.specs.Tests.{whether}
+use Rattle.rules.specs.Choices.{whether}
 
 -- where the halving looks
 abbrev pub middle : ℕ → ℕ → ℕ

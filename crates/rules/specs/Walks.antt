@@ -8,7 +8,7 @@ use lib.ListN.{length, getD}
 use Rattle.rules.specs.Looks.{Look, looked}
 use Rattle.rules.specs.Records.{Rec, held}
 use Rattle.rules.specs.Refusals.{onQueue}
-use Rattle.rules.specs.Tests.{ask, unless, whether}
+use Rattle.rules.specs.Choices.{ask, unless, whether}
 
 -- what is still to be walked: the positions from low to before high
 pub record Walk : Type 0 where

@@ -8,11 +8,11 @@ use Rattle.queue.proofs.Checks.{failed-number}
 use Rattle.queue.proofs.Numbers.{some-number}
 use Rattle.queue.specs.Answers.{numberOf, numberIn}
 use Rattle.rules.proofs.Refusals.{queue-stop}
-use Rattle.rules.proofs.Tests.{unless-stop, unless-go}
+use Rattle.rules.proofs.Choices.{unless-stop, unless-go}
 use Rattle.rules.specs.Looks.{refuses, looked, sees}
 use Rattle.rules.specs.Records.{Rec}
 use Rattle.rules.specs.Refusals.{onQueue}
-use Rattle.rules.specs.Tests.{unless}
+use Rattle.rules.specs.Choices.{unless}
 use Rattle.queue.specs.declared.refusals.Refusal.{Refusal}
 use Rattle.queue.specs.declared.refusals.Checked.{Checked}
 use Rattle.queue.specs.declared.refusals.Checked.the-variants.{Refused as Failed}

@@ -4,10 +4,10 @@ use mathlib.Core.Path.{_≡_}
 use Prim.Native.Nat.{ℕ, _+_, _-_, _≤_, _<_}
 use borrow.Author.Tests.{eq-eqb, ne-eqb, le-leb, lt-leb}
 use lib.Dec.{eqb, eqb→eq, leb, leb→le, nleb→lt}
-use Rattle.rules.proofs.Tests.{by-test, neqb→ne}
+use Rattle.rules.proofs.Choices.{by-test, neqb→ne}
 use Rattle.rules.specs.Places.{place}
 use Rattle.rules.specs.Runs.{TwoRuns, twoRuns, fromTo, runs}
-use Rattle.rules.specs.Tests.{whether}
+use Rattle.rules.specs.Choices.{whether}
 
 -- 0..0 and 0..0
 abbrev pub none-of : TwoRuns

@@ -6,7 +6,7 @@ use native.Mathlib.Omega.{arith}
 use lib.ListN.{length}
 use Rattle.rules.proofs.Places.{place-good}
 use Rattle.rules.proofs.Refusals.{queue-ok, range-ok}
-use Rattle.rules.proofs.Tests.{by-refusal, unless-go}
+use Rattle.rules.proofs.Choices.{by-refusal, unless-go}
 use Rattle.rules.specs.Looks.{sees, refuses}
 use Rattle.rules.specs.Places.{place}
 use Rattle.rules.specs.Records.{Rec}

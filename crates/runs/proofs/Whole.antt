@@ -13,13 +13,13 @@ use Rattle.rules.proofs.Places.{place-low, wrapped-high}
 use Rattle.rules.proofs.Refusals.{Good, queue-ok, range-ok, queue-go}
 use Rattle.rules.proofs.Ring.{read-add, read-straight}
 use Rattle.rules.proofs.Slots.{listOf-none, listOf-drop, listOf-take}
-use Rattle.rules.proofs.Tests.{unless-go, lt-or-ge}
+use Rattle.rules.proofs.Choices.{unless-go, lt-or-ge}
 use Rattle.rules.specs.Places.{place}
 use Rattle.rules.specs.Records.{Rec, held}
 use Rattle.rules.specs.Refusals.{onQueue, inRange, onRange}
 use Rattle.rules.specs.Runs.{TwoRuns, part, runs, frontRun, backRun, runsOr}
 use Rattle.rules.specs.Slots.{read, listOf}
-use Rattle.rules.specs.Tests.{ask}
+use Rattle.rules.specs.Choices.{ask}
 use Rattle.runs.proofs.Cases.{by-runs}
 
 -- elements that go on from slot 0: those up to the last slot, and behind them the rest from the first slot on

@@ -9,7 +9,7 @@ use native.Mathlib.Omega.{arith}
 use lib.Dec.{T, ltb, ltb→lt, nltb→le}
 use lib.ListN.{length, getD, List·getD-append, length-append}
 use lib.Seq.{getD-append-add}
-use Rattle.rules.proofs.Tests.{by-test, is-true, by-test₂, lt-or-ge}
+use Rattle.rules.proofs.Choices.{by-test, is-true, by-test₂, lt-or-ge}
 use Rattle.rules.specs.Search.{halving, middle, placeIn, pointOf}
 use Rattle.search.proofs.Handed.{begins-less, begins-not}
 use Rattle.search.proofs.Searches.{point-handed}

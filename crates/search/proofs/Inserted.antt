@@ -6,7 +6,7 @@ use Prim.Native.Nat.{ℕ, _≤_, _<_, _-_, _+_, suc}
 use native.Mathlib.Omega.{arith}
 use lib.ListN.{length, take, getD, List·getD-append, drop, length-append, length-drop}
 use lib.Seq.{length-take-le, getD-take, getD-at, getD-append-add, getD-drop}
-use Rattle.rules.proofs.Tests.{lt-or-ge}
+use Rattle.rules.proofs.Choices.{lt-or-ge}
 use Rattle.rules.specs.Middle.{inserted}
 use Rattle.search.specs.Sorted.{sorted}
 

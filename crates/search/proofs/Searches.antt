@@ -11,14 +11,14 @@ use lib.Dec.{ltb}
 use lib.ListN.{length, getD}
 use Rattle.queue.proofs.Looks.{look-first}
 use Rattle.queue.specs.Answers.{numberIn, numberOf}
-use Rattle.rules.proofs.Tests.{by-test₂}
+use Rattle.rules.proofs.Choices.{by-test₂}
 use Rattle.rules.specs.Conditions.{meets, equal, below, Test}
 use Rattle.rules.specs.Looks.{refuses, lookAt, sees}
 use Rattle.rules.specs.Records.{Rec}
 use Rattle.rules.specs.Refusals.{onQueue}
 use Rattle.rules.specs.Runs.{frontRun, backRun}
 use Rattle.rules.specs.Search.{foundAt, spotOf, spotIn, placeIn, pointOf, placeAt, searchFor, partitionBy}
-use Rattle.rules.specs.Tests.{whether}
+use Rattle.rules.specs.Choices.{whether}
 use Rattle.runs.proofs.Asks.{asks-seen}
 use Rattle.search.specs.Handed.{begins, handedRun, countedFrom}
 use Rattle.queue.specs.declared.refusals.Refusal.{Refusal}

@@ -7,7 +7,7 @@ use Prim.Native.Nat.{ℕ, _<_, _-_, _≤_, suc}
 use native.Mathlib.Omega.{arith}
 use borrow.Author.Tests.{lt-ltb, ltb-true, ltb-false}
 use lib.ListN.{getD, length}
-use Rattle.rules.proofs.Tests.{lt-or-ge}
+use Rattle.rules.proofs.Choices.{lt-or-ge}
 use Rattle.rules.specs.Conditions.{meets, below, Test}
 use Rattle.rules.specs.Looks.{sees}
 use Rattle.rules.specs.Middle.{insertAt}

@@ -9,7 +9,7 @@ use borrow.Author.Tests.{eqb-false, lt-ltb, eq-eqb, eqb-true}
 use lib.Dec.{T, ltb, eqb, ltb→lt, eqb→eq}
 use lib.ListN.{length, getD, length-append}
 use Rattle.rules.proofs.Refusals.{T-and}
-use Rattle.rules.proofs.Tests.{lt-or-ge, by-test}
+use Rattle.rules.proofs.Choices.{lt-or-ge, by-test}
 use Rattle.rules.specs.Conditions.{meets, below, equal}
 use Rattle.rules.specs.Search.{Spot, foundAt, placeAt, spotIn, placeIn, spotOf}
 use Rattle.search.proofs.Edges.{Edge, Lies, seam, place-edge, edge-there, handed-lies}

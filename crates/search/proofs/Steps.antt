@@ -7,7 +7,7 @@ use native.Mathlib.Omega.{arith}
 use borrow.Author.Tests.{le-ltb, lt-ltb}
 use lib.ListN.{length, getD}
 use Rattle.rules.specs.Search.{halving, placeIn, middle}
-use Rattle.rules.specs.Tests.{whether}
+use Rattle.rules.specs.Choices.{whether}
 
 module _ (f : ℕ → Bool) (s : List ℕ) where
   -- some number of steps that is enough from low and high on ends where the whole halving does

@@ -3,7 +3,7 @@ use mathlib.Core.Bool.{Bool, false}
 use mathlib.Core.List.{List, [], _∷_}
 use Prim.Native.Nat.{ℕ}
 use lib.ListN.{length}
-use Rattle.rules.specs.Tests.{whether}
+use Rattle.rules.specs.Choices.{whether}
 
 -- there is a first element, and it passes
 unfoldable pub begins : (ℕ → Bool) → List ℕ → Bool

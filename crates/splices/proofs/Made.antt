@@ -10,10 +10,10 @@ use lib.ListN.{length}
 use Rattle.holes.proofs.Rooms.{tail-moved}
 use Rattle.holes.specs.Holes.{joinedHead, joinedMoved, HoleClosed}
 use Rattle.rules.proofs.Places.{place-good}
-use Rattle.rules.proofs.Tests.{lt-or-ge, by-test}
+use Rattle.rules.proofs.Choices.{lt-or-ge, by-test}
 use Rattle.rules.specs.Places.{place}
 use Rattle.rules.specs.Slots.{copied}
-use Rattle.rules.specs.Tests.{whether}
+use Rattle.rules.specs.Choices.{whether}
 use Rattle.splices.specs.Rooms.{SpliceMade, splicedHead, splicedMoved}
 
 module _ (b : List ℕ) (h s d r t : ℕ) where

@@ -10,7 +10,7 @@ use Rattle.holes.proofs.Closes.{lay-over}
 use Rattle.queue.proofs.Ranges.{range-go, range-stop}
 use Rattle.queue.proofs.Numbers.{some-number}
 use Rattle.queue.specs.Answers.{numberOf}
-use Rattle.rules.proofs.Made.{map-made}
+use Rattle.rules.proofs.Made.{map-brought}
 use Rattle.rules.proofs.Refusals.{no-room, range-ok, some-room}
 use Rattle.rules.proofs.Slots.{length-listOf}
 use Rattle.rules.proofs.Told.{own-refused, accepts}
@@ -21,7 +21,7 @@ use Rattle.rules.specs.Refusals.{onChange, inRange}
 use Rattle.rules.specs.Rule.{numbers}
 use Rattle.rules.specs.Slots.{lay, listOf}
 use Rattle.rules.specs.Splice.{splice}
-use Rattle.rules.specs.Tests.{whether}
+use Rattle.rules.specs.Choices.{whether}
 use Rattle.splices.specs.Rooms.{SpliceMade, splicedHead, splicedMoved}
 use Rattle.queue.specs.declared.refusals.Refusal.{Refusal}
 use Rattle.queue.specs.declared.refusals.Refusal.the-variants.{Room}
@@ -29,7 +29,7 @@ use Rattle.queue.specs.declared.refusals.Refusal.the-variants.{Room}
 module _ (b : List ℕ) (r : Rec) (s e : ℕ) (vs : List ℕ) (first : onChange (length b) r 0 ≡ 0) where
   -- no range of positions
   pub splice-range : (x : Refusal) → inRange (r .len) s e 0 ≡ numberOf x
-      → (record { refused = numberOf x; moved = 0; held = shut r; handed = none }, b) ≡ told (doRule b r (splice s e vs))
+      → (record { refused = numberOf x; moved = 0; state = shut r; handed = none }, b) ≡ told (doRule b r (splice s e vs))
   unfolding splice
   splice-range x z =
       own-refused b r (splice s e vs) (numberOf x) (some-number x) first
@@ -38,7 +38,7 @@ module _ (b : List ℕ) (r : Rec) (s e : ℕ) (vs : List ℕ) (first : onChange 
   module _ (ranged : inRange (r .len) s e 0 ≡ 0) where
     -- more elements than slots
     pub splice-full : length b < s + length vs + (r .len - e)
-        → (record { refused = numberOf Room; moved = 0; held = shut r; handed = none }, b) ≡ told (doRule b r (splice s e vs))
+        → (record { refused = numberOf Room; moved = 0; state = shut r; handed = none }, b) ≡ told (doRule b r (splice s e vs))
     unfolding splice numberOf
     splice-full lt =
         own-refused b r (splice s e vs) 4 (λ z. omega arith) first (range-go (r .len) s e _ ranged ∙ no-room _ _ lt)
@@ -47,7 +47,7 @@ module _ (b : List ℕ) (r : Rec) (s e : ℕ) (vs : List ℕ) (first : onChange 
     pub spliced : (b′ b″ : List ℕ) (h′ h″ m : ℕ) (r′ : Rec) → s + length vs + (r .len - e) ≤ length b
         → SpliceMade b b′ (r .head) s (e - s) (length vs) (r .len - e) h′ m → b″ ≡ lay b′ (place (length b′) h′ s) vs
         → h″ ≡ whether (eqb (s + length vs + (r .len - e)) 0) 0 h′ → r′ ≡ stepped r h″ (s + length vs + (r .len - e))
-        → (record { refused = 0; moved = m; held = shut r′; handed = none }, b″) ≡ told (doRule b r (splice s e vs))
+        → (record { refused = 0; moved = m; state = shut r′; handed = none }, b″) ≡ told (doRule b r (splice s e vs))
     unfolding splice splicedHead splicedMoved held
     spliced b′ b″ h′ h″ m r′ fits c laid over made =
         let n = r .len in
@@ -58,7 +58,7 @@ module _ (b : List ℕ) (r : Rec) (s e : ℕ) (vs : List ℕ) (first : onChange 
         let l = listOf b (r .head) n in
         let new : List ℕ = take s l ++ (vs ++ drop e l) in
         let many : length new ≡ s + length vs + (n - e) = simp (length-append, length-take, length-drop, length-listOf) (omega arith) in
-        let same-list : take s l ++ (map (numbers .made) vs ++ drop e l) ≡ new = ap (λ (us : List ℕ). take s l ++ (us ++ drop e l)) (map-made vs) in
+        let same-list : take s l ++ (map (numbers .brought) vs ++ drop e l) ≡ new = ap (λ (us : List ℕ). take s l ++ (us ++ drop e l)) (map-brought vs) in
         let at-slots : b″ ≡ lay b h′ new =
         laid ∙ ap (λ (k : ℕ). lay b′ (place k h′ s) vs) (c .room .long) ∙ (rw (whole, to-end) at (c .room .laid vs refl)) in
         accepts b r (splice s e vs) first (range-go n s e _ ranged ∙ some-room _ _ fits) m h″ (s + length vs + (n - e)) r′ none b″ made

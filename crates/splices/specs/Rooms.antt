@@ -6,7 +6,7 @@ use lib.Dec.{ltb}
 use lib.ListN.{length}
 use Rattle.holes.specs.Holes.{RoomMade}
 use Rattle.rules.specs.Places.{place}
-use Rattle.rules.specs.Tests.{whether}
+use Rattle.rules.specs.Choices.{whether}
 
 -- head, if something remains: where r < d and s + r < t, the earlier elements move and it steps on by the hole d - r; otherwise as it was
 unfoldable pub splicedHead : ℕ → ℕ → ℕ → ℕ → ℕ → ℕ → ℕ

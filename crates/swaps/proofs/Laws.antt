@@ -21,30 +21,30 @@ use Rattle.rules.specs.Places.{place}
 use Rattle.rules.specs.Records.{Rec, held, stepped}
 use Rattle.rules.specs.Refusals.{onChange}
 use Rattle.rules.specs.Slots.{listOf}
-use Rattle.rules.specs.Tests.{ask, whether}
+use Rattle.rules.specs.Choices.{ask, whether}
 use Rattle.queue.specs.declared.refusals.Refusal.the-variants.{Position}
 
 module _ (b : List ℕ) (r : Rec) (first : onChange (length b) r 0 ≡ 0) where
   -- ---- two positions
 
   module _ (i j : ℕ) where
-    pub one-past : r .len ≤ i → (record { refused = numberOf Position; moved = 0; held = shut r; handed = none }, b) ≡ told (doRule b r (exchange i j))
+    pub one-past : r .len ≤ i → (record { refused = numberOf Position; moved = 0; state = shut r; handed = none }, b) ≡ told (doRule b r (exchange i j))
     unfolding exchange numberOf ask
     one-past le = own-refused b r (exchange i j) 3 (λ e. omega arith) first (rw (le-ltb i (r .len) le))
 
     module _ (lt : i < r .len) where
-      pub other-past : r .len ≤ j → (record { refused = numberOf Position; moved = 0; held = shut r; handed = none }, b) ≡ told (doRule b r (exchange i j))
+      pub other-past : r .len ≤ j → (record { refused = numberOf Position; moved = 0; state = shut r; handed = none }, b) ≡ told (doRule b r (exchange i j))
       unfolding exchange numberOf ask
       other-past le = own-refused b r (exchange i j) 3 (λ e. omega arith) first (rw (lt-ltb i (r .len) lt, le-ltb j (r .len) le))
 
-      pub not-swapped : j < r .len → i ≡ j → (record { refused = 0; moved = 0; held = shut r; handed = none }, b) ≡ told (doRule b r (exchange i j))
+      pub not-swapped : j < r .len → i ≡ j → (record { refused = 0; moved = 0; state = shut r; handed = none }, b) ≡ told (doRule b r (exchange i j))
       unfolding exchange ask whether
       not-swapped lt′ e =
           accepts-same b r (exchange i j) first (rw (lt-ltb i (r .len) lt, lt-ltb j (r .len) lt′)) refl refl (rw (eq-eqb i j e)) refl
           (rw e (set-set (held b r) j _ _ ∙ set-getD (held b r) j 0))
 
       pub swapped : (p p′ k x : ℕ) (b₁ : List ℕ) → j < r .len → i ≢ j → p ≡ place (length b) (r .head) i → p′ ≡ place (length b) (r .head) j → k ≡ p′ → x ≡ getD b p 0
-          → b₁ ≡ set b p (getD b p′ 0) → (record { refused = 0; moved = 2; held = shut r; handed = none }, set b₁ k x) ≡ told (doRule b r (exchange i j))
+          → b₁ ≡ set b p (getD b p′ 0) → (record { refused = 0; moved = 2; state = shut r; handed = none }, set b₁ k x) ≡ told (doRule b r (exchange i j))
       unfolding exchange ask whether held
       swapped p p′ k x b₁ lt′ ne at-p at-p′ at-k at-x at-b =
           let g = fine-change b r first .good in
@@ -58,13 +58,13 @@ module _ (b : List ℕ) (r : Rec) (first : onChange (length b) r 0 ≡ 0) where
   -- ---- the first in the place of the removed one
 
   module _ (i : ℕ) where
-    pub front-past : r .len ≤ i → (record { refused = 0; moved = 0; held = shut r; handed = none }, b) ≡ told (doRule b r (swapRemoveFront i))
+    pub front-past : r .len ≤ i → (record { refused = 0; moved = 0; state = shut r; handed = none }, b) ≡ told (doRule b r (swapRemoveFront i))
     unfolding swapRemoveFront held whether
     front-past le =
         let no = le-ltb i (r .len) le in
         accepts-same b r (swapRemoveFront i) first refl (rw no) (rw no) (rw no) (handed-past b (r .head) (r .len) i le) (rw (length-listOf, no))
 
-    pub back-past : r .len ≤ i → (record { refused = 0; moved = 0; held = shut r; handed = none }, b) ≡ told (doRule b r (swapRemoveBack i))
+    pub back-past : r .len ≤ i → (record { refused = 0; moved = 0; state = shut r; handed = none }, b) ≡ told (doRule b r (swapRemoveBack i))
     unfolding swapRemoveBack held whether
     back-past le =
         let no = le-ltb i (r .len) le in
@@ -86,7 +86,7 @@ module _ (b : List ℕ) (r : Rec) (first : onChange (length b) r 0 ≡ 0) where
 
       pub front-filled : (v p f : ℕ) (r′ : Rec) (b′ : List ℕ) → i ≢ 0 → p ≡ place (length b) (r .head) i → v ≡ getD b p 0 → b′ ≡ set b p (getD b (r .head) 0)
           → f ≡ place (length b) (r .head) 1 → r′ ≡ stepped r f (r .len - 1)
-          → (record { refused = 0; moved = 1; held = shut r′; handed = some v }, b′) ≡ told (doRule b r (swapRemoveFront i))
+          → (record { refused = 0; moved = 1; state = shut r′; handed = some v }, b′) ≡ told (doRule b r (swapRemoveFront i))
       unfolding swapRemoveFront held whether
       front-filled v p f r′ b′ ne at-p at-v at-b at-f made =
           let g = fine-change b r first .good in
@@ -100,7 +100,7 @@ module _ (b : List ℕ) (r : Rec) (first : onChange (length b) r 0 ≡ 0) where
 
       pub back-filled : (v p e : ℕ) (r′ : Rec) (b′ : List ℕ) → i ≢ r .len - 1 → p ≡ place (length b) (r .head) i → e ≡ place (length b) (r .head) (r .len - 1) → v ≡ getD b p 0
           → b′ ≡ set b p (getD b e 0) → r′ ≡ stepped r (r .head) (r .len - 1)
-          → (record { refused = 0; moved = 1; held = shut r′; handed = some v }, b′) ≡ told (doRule b r (swapRemoveBack i))
+          → (record { refused = 0; moved = 1; state = shut r′; handed = some v }, b′) ≡ told (doRule b r (swapRemoveBack i))
       unfolding swapRemoveBack held whether
       back-filled v p e r′ b′ ne at-p at-e at-v at-b made =
           let g = fine-change b r first .good in

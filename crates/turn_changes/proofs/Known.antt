@@ -5,10 +5,10 @@ use Prim.Native.Nat.{ℕ}
 use Rattle.answers.specs.Answers.{madeAnswer}
 use Rattle.rules.specs.Calls.{rule}
 use Rattle.rules.specs.Drains.{Drain}
-use Rattle.rules.specs.Makes.{Making, MadeIn, toldMaking}
-use Rattle.rules.specs.Outcome.{Answer, Held, told, doRule}
+use Rattle.rules.specs.Makes.{MakeAnswer, MakeOutcome, toldMake}
+use Rattle.rules.specs.Outcome.{Answer, State, told, doRule}
 use Rattle.rules.specs.Records.{Rec}
-use Rattle.rules.specs.Sequences.{making, doOnQueue, doOnDrain}
+use Rattle.rules.specs.Sequences.{doMake, doOnQueue, doOnDrain}
 use Rattle.turn_calls.specs.Calls.{editOf, joinOf, removalOf, changeOf, drainCallOf}
 use Rattle.turn_calls.specs.declared.Edit.{Edit}
 use Rattle.turn_calls.specs.declared.Join.{Join}
@@ -46,8 +46,8 @@ module _ (b b′ : List ℕ) (p a : Answer) (same : p ≡ a) where
       (λ i. (same i, b′)) ∙ known (λ (y : DrainCall). told (doOnDrain b d (drainCallOf y))) x k (a, b′) e f
 
 -- a call that makes a record, where k is its own answer; b are the slots before, b′ those after
-pub makes : (b b′ : List ℕ) (p : Answer) (h : Held) (m : MadeIn) (k : Making) → p ≡ madeAnswer h k
-    → (k, b′) ≡ toldMaking m
-    → (p, b′) ≡ told (making b h m)
-unfolding making
-makes b b′ p h m k same e = (λ i. (same i, b′)) ∙ ap (λ (x : Making × List ℕ). (madeAnswer h (x .0), x .1)) e
+pub makes : (b b′ : List ℕ) (p : Answer) (h : State) (m : MakeOutcome) (k : MakeAnswer) → p ≡ madeAnswer h k
+    → (k, b′) ≡ toldMake m
+    → (p, b′) ≡ told (doMake b h m)
+unfolding doMake
+makes b b′ p h m k same e = (λ i. (same i, b′)) ∙ ap (λ (x : MakeAnswer × List ℕ). (madeAnswer h (x .0), x .1)) e

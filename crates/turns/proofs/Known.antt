@@ -2,8 +2,8 @@
 use mathlib.Core.List.{List}
 use mathlib.Core.Path.{_≡_}
 use Prim.Native.Nat.{ℕ}
-use Rattle.rules.specs.Outcome.{Held}
-use Rattle.rules.specs.Sequences.{Pair, Seen, step, toldStep, ofQueue, ofBoth}
+use Rattle.rules.specs.Outcome.{State}
+use Rattle.rules.specs.Sequences.{Pair, StepAnswer, step, toldStep, ofQueue, ofBoth}
 use Rattle.rules.specs.Sequences as rules
 use Rattle.turn_calls.specs.Calls.{queueCallOf, pairCallOf, callOf, sideOf}
 use Rattle.turn_calls.specs.declared.Call.{Call}
@@ -11,20 +11,20 @@ use Rattle.turn_calls.specs.declared.PairCall.{PairCall}
 use Rattle.turn_calls.specs.declared.QueueCall.{QueueCall}
 use Rattle.turn_calls.specs.declared.Side.{Side}
 use Rattle.turn_changes.proofs.Known.{known}
-use Rattle.queue.specs.Drains.{heldOf}
-use Rattle.queue.specs.declared.records.State.{State}
+use Rattle.queue.specs.Drains.{stateOf}
+use Rattle.queue.specs.declared.records.State.{State as Kept}
 use Rattle.turns.specs.Answers.{toldFirst}
 
 -- what is held of the queues
-module _ (b b′ : List ℕ) (c : rules.Call) (s : Seen × List ℕ × List ℕ) (x k : State) (e : x ≡ k) where
-  pub first-known : (h′ : Held) → s ≡ toldFirst b (heldOf k) b′ h′ c → s ≡ toldFirst b (heldOf x) b′ h′ c
-  first-known h′ f = known (λ (y : State). toldFirst b (heldOf y) b′ h′ c) x k s e f
+module _ (b b′ : List ℕ) (c : rules.Call) (s : StepAnswer × List ℕ × List ℕ) (x k : Kept) (e : x ≡ k) where
+  pub first-known : (h′ : State) → s ≡ toldFirst b (stateOf k) b′ h′ c → s ≡ toldFirst b (stateOf x) b′ h′ c
+  first-known h′ f = known (λ (y : Kept). toldFirst b (stateOf y) b′ h′ c) x k s e f
 
-  pub second-known : (h : Held) → s ≡ toldFirst b h b′ (heldOf k) c → s ≡ toldFirst b h b′ (heldOf x) c
-  second-known h f = known (λ (y : State). toldFirst b h b′ (heldOf y) c) x k s e f
+  pub second-known : (h : State) → s ≡ toldFirst b h b′ (stateOf k) c → s ≡ toldFirst b h b′ (stateOf x) c
+  second-known h f = known (λ (y : Kept). toldFirst b h b′ (stateOf y) c) x k s e f
 
 -- the call
-module _ (b : List ℕ) (h : Held) (b′ : List ℕ) (h′ : Held) (s : Seen × List ℕ × List ℕ) where
+module _ (b : List ℕ) (h : State) (b′ : List ℕ) (h′ : State) (s : StepAnswer × List ℕ × List ℕ) where
   pub queue-call-known : (vs bs : List ℕ) (x k : QueueCall) → x ≡ k
       → s ≡ toldFirst b h b′ h′ (ofQueue (queueCallOf k vs bs))
       → s ≡ toldFirst b h b′ h′ (ofQueue (queueCallOf x vs bs))
@@ -39,7 +39,7 @@ module _ (b : List ℕ) (h : Held) (b′ : List ℕ) (h′ : Held) (s : Seen × 
       → s ≡ toldFirst b h b′ h′ (callOf x vs bs)
   call-known vs bs x k e f = known (λ (y : Call). toldFirst b h b′ h′ (callOf y vs bs)) x k s e f
 
-pub side-known : (p : Pair) (c : rules.Call) (s : Seen × List ℕ × List ℕ) (x k : Side) → x ≡ k
+pub side-known : (p : Pair) (c : rules.Call) (s : StepAnswer × List ℕ × List ℕ) (x k : Side) → x ≡ k
     → s ≡ toldStep (step p (record { side = sideOf k; call = c }))
     → s ≡ toldStep (step p (record { side = sideOf x; call = c }))
 side-known p c s x k e f = known (λ (y : Side). toldStep (step p (record { side = sideOf y; call = c }))) x k s e f

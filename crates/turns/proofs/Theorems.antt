@@ -4,7 +4,7 @@ use mathlib.Core.Path.{_≡_, refl, sym, _∙_, ap, subst}
 use Prim.Native.Nat.{ℕ, _+_}
 use lib.ListN.{take}
 use Rattle.rules.proofs.Theorems.{conserved}
-use Rattle.rules.specs.Sequences.{Pair, CallStep, Seen, Turn, pairOf, queueOf, step, toldStep, start, run, timesEntered, timesLeft}
+use Rattle.rules.specs.Sequences.{Pair, CallStep, StepAnswer, Turn, pairOf, queueOf, step, toldStep, start, run, timesEntered, timesLeft}
 use Rattle.rules.specs.Standing.{standingSlots}
 use Rattle.answers.specs.Answers.{ofStepAnswer}
 use Rattle.turn_calls.specs.Calls.{turnOf}
@@ -13,7 +13,7 @@ use Rattle.answers.specs.declared.pairs.StepAnswer.{StepAnswer}
 
 -- what the contract tells of the queues
 queues-left : (c : CallStep) (r : StepAnswer) (x y : List ℕ) → (ofStepAnswer r, x, y) ≡ toldStep c → leftBy r x y ≡ c .queues
-queues-left c r x y e = ap (λ (t : Seen × List ℕ × List ℕ). pairOf (queueOf (t .1) (t .0 .a)) (queueOf (t .2) (t .0 .b))) e
+queues-left c r x y e = ap (λ (t : StepAnswer × List ℕ × List ℕ). pairOf (queueOf (t .1) (t .0 .a)) (queueOf (t .2) (t .0 .b))) e
 
 -- A sequence of calls of `turn`, each given what the last left, is such a sequence of the rules.
 pub is-run : {s e : Pair} {ts : List Turn} → Played s ts e → run s ts ≡ e
@@ -26,8 +26,8 @@ is-run (played {s} {e} {ts} d k vs bs r x y f p) = ap (λ (q : Pair). run q ts) 
 pub code-conserves : (x : ℕ) (p q : List ℕ) (ts : List Turn) (n : ℕ) (e : Pair)
     → let s = start p q in
     let u = take n ts in
-    Played s u e → timesEntered x s u ≡ standingSlots x (e .a .slots) (e .a .held) + standingSlots x (e .b .slots) (e .b .held) + timesLeft x s u
+    Played s u e → timesEntered x s u ≡ standingSlots x (e .a .slots) (e .a .state) + standingSlots x (e .b .slots) (e .b .state) + timesLeft x s u
 code-conserves x p q ts n e l =
     let s = start p q in
     let u = take n ts in
-    subst (λ (k : Pair). timesEntered x s u ≡ standingSlots x (k .a .slots) (k .a .held) + standingSlots x (k .b .slots) (k .b .held) + timesLeft x s u) (is-run l) (conserved x p q ts n)
+    subst (λ (k : Pair). timesEntered x s u ≡ standingSlots x (k .a .slots) (k .a .state) + standingSlots x (k .b .slots) (k .b .state) + timesLeft x s u) (is-run l) (conserved x p q ts n)

@@ -6,14 +6,14 @@ use answers::StepAnswer;
 use elements::Given;
 use queue::State;
 ghost use mathlib.Core.Path.{_≡_};
-ghost use Rattle.queue.specs.Drains.{heldOf};
+ghost use Rattle.queue.specs.Drains.{stateOf};
 ghost use Rattle.answers.specs.Answers.{ofAnswer, ofStepAnswer};
 ghost use Rattle.answers.specs.Sights.{ofLooked};
-ghost use Rattle.turns.specs.Answers.{lookSeen, noneSeen, oneSeen, seenRound};
+ghost use Rattle.turns.specs.Answers.{lookAnswered, noneAnswered, oneAnswered, answerFacing};
 
 // Of a call that is passed over.
 pub fn passed_over(a: State, b: State) -> StepAnswer
-    ensures { λ r. ⌜ ofStepAnswer r ≡ noneSeen (heldOf a) (heldOf b) ⌝ }
+    ensures { λ r. ⌜ ofStepAnswer r ≡ noneAnswered (stateOf a) (stateOf b) ⌝ }
 {
     StepAnswer {
         refused: 0,
@@ -27,7 +27,7 @@ pub fn passed_over(a: State, b: State) -> StepAnswer
 
 // Of a look.
 pub fn of_looked(looked: Looked, a: State, b: State) -> StepAnswer
-    ensures { λ r. ⌜ ofStepAnswer r ≡ lookSeen (ofLooked looked) (heldOf a) (heldOf b) ⌝ }
+    ensures { λ r. ⌜ ofStepAnswer r ≡ lookAnswered (ofLooked looked) (stateOf a) (stateOf b) ⌝ }
 {
     let sight = looked.sight;
     StepAnswer {
@@ -42,7 +42,7 @@ pub fn of_looked(looked: Looked, a: State, b: State) -> StepAnswer
 
 // Of a call that can change the first queue, and leaves the second.
 pub fn with_other(answer: Answer, other: State) -> StepAnswer
-    ensures { λ r. ⌜ ofStepAnswer r ≡ oneSeen (ofAnswer answer) (heldOf other) ⌝ }
+    ensures { λ r. ⌜ ofStepAnswer r ≡ oneAnswered (ofAnswer answer) (stateOf other) ⌝ }
 {
     let state = answer.state;
     let handed = answer.handed;
@@ -58,7 +58,7 @@ pub fn with_other(answer: Answer, other: State) -> StepAnswer
 
 // Of a call that was made on B, told of A and B.
 pub fn turned_round(turned: StepAnswer) -> StepAnswer
-    ensures { λ r. ⌜ ofStepAnswer r ≡ seenRound (ofStepAnswer turned) ⌝ }
+    ensures { λ r. ⌜ ofStepAnswer r ≡ answerFacing (ofStepAnswer turned) ⌝ }
 {
     let handed = turned.handed;
     let sight = turned.sight;

@@ -20,7 +20,7 @@ ghost use mathlib.Core.List.{List};
 ghost use mathlib.Core.Path.{_≡_};
 ghost use Prim.Native.Nat.{ℕ};
 ghost use Rattle.rules.specs.Sequences.{ofBoth, ofDrain, ofQueue};
-ghost use Rattle.queue.specs.Drains.{heldOf};
+ghost use Rattle.queue.specs.Drains.{stateOf};
 ghost use Rattle.answers.specs.Answers.{ofStepAnswer};
 ghost use Rattle.turn_calls.specs.Calls.{callOf, drainCallOf, pairCallOf, queueCallOf, turnOf};
 ghost use Rattle.turns.specs.Answers.{toldFirst, toldTurn};
@@ -35,7 +35,7 @@ fn on_queue(
     bytes: &[u8],
 ) -> StepAnswer
     ensures { λ r. ⌜ ((y : List ℕ)
-        → (ofStepAnswer r, now (slots .exit), y) ≡ toldFirst (now (slots .entry)) (heldOf first) y (heldOf second)
+        → (ofStepAnswer r, now (slots .exit), y) ≡ toldFirst (now (slots .entry)) (stateOf first) y (stateOf second)
         (ofQueue (queueCallOf call (now (values .entry)) (now (bytes .entry)))))
         ⌝ }
 {
@@ -51,7 +51,7 @@ fn on_queue(
 // Makes a call of the first queue's drain; where none is open it is passed over.
 fn on_drain(slots: &mut [u32], first: State, second: State, call: DrainCall) -> StepAnswer
     ensures { λ r. ⌜ ((y : List ℕ)
-        → (ofStepAnswer r, now (slots .exit), y) ≡ toldFirst (now (slots .entry)) (heldOf first) y (heldOf second)
+        → (ofStepAnswer r, now (slots .exit), y) ≡ toldFirst (now (slots .entry)) (stateOf first) y (stateOf second)
         (ofDrain (drainCallOf call)))
         ⌝ }
 {
@@ -71,7 +71,7 @@ fn on_both(
 ) -> StepAnswer
     ensures { λ r. ⌜
         (ofStepAnswer r, now (slots .exit), now («other_slots» .exit))
-        ≡ toldFirst (now (slots .entry)) (heldOf first) (now («other_slots» .entry)) (heldOf second)
+        ≡ toldFirst (now (slots .entry)) (stateOf first) (now («other_slots» .entry)) (stateOf second)
         (ofBoth (pairCallOf call))
         ⌝ }
 {
@@ -104,7 +104,7 @@ fn on_first(
 ) -> StepAnswer
     ensures { λ r. ⌜
         (ofStepAnswer r, now (slots .exit), now («other_slots» .exit))
-        ≡ toldFirst (now (slots .entry)) (heldOf first) (now («other_slots» .entry)) (heldOf second)
+        ≡ toldFirst (now (slots .entry)) (stateOf first) (now («other_slots» .entry)) (stateOf second)
         (callOf call (now (values .entry)) (now (bytes .entry)))
         ⌝ }
 {
@@ -130,7 +130,7 @@ pub fn turn(
 ) -> StepAnswer
     ensures { λ r. ⌜
         (ofStepAnswer r, now («a_slots» .exit), now («b_slots» .exit))
-        ≡ toldTurn (now («a_slots» .entry)) (heldOf a) (now («b_slots» .entry)) (heldOf b)
+        ≡ toldTurn (now («a_slots» .entry)) (stateOf a) (now («b_slots» .entry)) (stateOf b)
         (turnOf side call (now (values .entry)) (now (bytes .entry)))
         ⌝ }
 {

@@ -11,11 +11,11 @@ use lib.ListN.{length, getD}
 use Rattle.queue.proofs.Numbers.{some-number}
 use Rattle.queue.specs.Answers.{numberOf}
 use Rattle.rules.proofs.Refusals.{queue-ok, T-and}
-use Rattle.rules.proofs.Tests.{unless-stop, passed}
+use Rattle.rules.proofs.Choices.{unless-stop, passed}
 use Rattle.rules.specs.Looks.{refuses, looked, sees}
 use Rattle.rules.specs.Records.{Rec, held}
 use Rattle.rules.specs.Refusals.{onQueue}
-use Rattle.rules.specs.Tests.{unless, whether}
+use Rattle.rules.specs.Choices.{unless, whether}
 use Rattle.rules.specs.Walks.{beginWalk, wholeWalk, Walk, WalkStep, onWalk, nextStep, nextBackStep, sameWalk}
 use Rattle.queue.specs.declared.refusals.Refusal.{Refusal}
 

@@ -8,7 +8,7 @@ use native.Mathlib.Omega.{arith}
 use lib.ListN.{length, take, drop, getD, length-drop}
 use lib.Seq.{take-all, take-suc, drop-cons, getD-drop}
 use Rattle.rules.proofs.Held.{length-held}
-use Rattle.rules.proofs.Tests.{lt-or-ge}
+use Rattle.rules.proofs.Choices.{lt-or-ge}
 use Rattle.rules.specs.Count.{asList}
 use Rattle.rules.specs.Records.{Rec, held}
 use Rattle.rules.specs.Refusals.{onQueue}

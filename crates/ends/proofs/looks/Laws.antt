@@ -9,7 +9,7 @@ use lib.ListN.{length, getD, getElem?}
 use Rattle.queue.proofs.Checks.{fine}
 use Rattle.queue.proofs.Looks.{look-past}
 use Rattle.rules.proofs.Slots.{handed-past, handed-at, length-listOf}
-use Rattle.rules.proofs.Tests.{lt-or-ge}
+use Rattle.rules.proofs.Choices.{lt-or-ge}
 use Rattle.rules.specs.Looks.{sees, lookAt, atPosition, atBack, looked}
 use Rattle.rules.specs.Places.{place}
 use Rattle.rules.specs.Records.{Rec, held}

@@ -22,7 +22,7 @@ use Rattle.rules.specs.Records.{held}
 use Rattle.rules.specs.Refusals.{onChange}
 use Rattle.rules.specs.Rule.{Rule, after}
 use Rattle.rules.specs.Slots.{listOf, read}
-use Rattle.rules.specs.Tests.{whether}
+use Rattle.rules.specs.Choices.{whether}
 use Rattle.queue.specs.declared.records.Deque.{Deque}
 use Rattle.queue.specs.declared.refusals.Refusal.{Refusal}
 use Rattle.elements.specs.declared.answers.Handed.{Handed}
@@ -87,7 +87,7 @@ module _ (b : List ℕ) (q : Deque) (t : Test) (R S : Rule) (k : Conditional t R
   unfolding onlyIf
   stopped n first = go
     where
-      refused : (S : Rule) → (record { refused = suc n; moved = 0; held = shut (recOf q); handed = none }, b) ≡ told (doRule b (recOf q) S)
+      refused : (S : Rule) → (record { refused = suc n; moved = 0; state = shut (recOf q); handed = none }, b) ≡ told (doRule b (recOf q) S)
       refused S = first-refused b (recOf q) S (suc n) (suc-ne-zero n) first
 
       no : (p : Handed) → Popped p → ofHanded p .refused ≡ suc n

@@ -17,19 +17,19 @@ use Rattle.rules.specs.Places.{place}
 use Rattle.rules.specs.Records.{Rec, held, stepped}
 use Rattle.rules.specs.Refusals.{onChange}
 use Rattle.rules.specs.Slots.{listOf, lay}
-use Rattle.rules.specs.Tests.{whether}
+use Rattle.rules.specs.Choices.{whether}
 
 none-held : (b : List ℕ) (h n : ℕ) → n ≡ 0 → listOf b h n ≡ []
 none-held b h n e = rw e (listOf-none b h)
 
 module _ (b : List ℕ) (r : Rec) (first : onChange (length b) r 0 ≡ 0) where
-  pub front-none : r .len ≡ 0 → (record { refused = 0; moved = 0; held = shut r; handed = none }, b) ≡ told (doRule b r popFront)
+  pub front-none : r .len ≡ 0 → (record { refused = 0; moved = 0; state = shut r; handed = none }, b) ≡ told (doRule b r popFront)
   unfolding popFront held whether
   front-none empty =
       let no = none-held b (r .head) (r .len) empty in
       accepts-same b r popFront first refl (rw (eq-eqb (r .len) 0 empty)) (omega arith) refl (rw no) (rw no)
 
-  pub back-none : r .len ≡ 0 → (record { refused = 0; moved = 0; held = shut r; handed = none }, b) ≡ told (doRule b r popBack)
+  pub back-none : r .len ≡ 0 → (record { refused = 0; moved = 0; state = shut r; handed = none }, b) ≡ told (doRule b r popBack)
   unfolding popBack held
   back-none empty =
       let no = none-held b (r .head) (r .len) empty in
@@ -37,7 +37,7 @@ module _ (b : List ℕ) (r : Rec) (first : onChange (length b) r 0 ≡ 0) where
 
   -- the first element is handed over, and head steps on
   pub front-popped : (v i p : ℕ) (r′ : Rec) → r .len ≢ 0 → i ≡ r .head → v ≡ getD b i 0 → p ≡ place (length b) (r .head) 1 → r′ ≡ stepped r p (r .len - 1)
-      → (record { refused = 0; moved = 0; held = shut r′; handed = some v }, b) ≡ told (doRule b r popFront)
+      → (record { refused = 0; moved = 0; state = shut r′; handed = some v }, b) ≡ told (doRule b r popFront)
   unfolding popFront held whether
   front-popped v i p r′ some-in at-i at-v at-p made =
       let g = fine-change b r first .good in
@@ -49,7 +49,7 @@ module _ (b : List ℕ) (r : Rec) (first : onChange (length b) r 0 ≡ 0) where
 
   -- the last element is handed over, and head stays
   pub back-popped : (v p : ℕ) (r′ : Rec) → r .len ≢ 0 → p ≡ place (length b) (r .head) (r .len - 1) → v ≡ getD b p 0 → r′ ≡ stepped r (r .head) (r .len - 1)
-      → (record { refused = 0; moved = 0; held = shut r′; handed = some v }, b) ≡ told (doRule b r popBack)
+      → (record { refused = 0; moved = 0; state = shut r′; handed = some v }, b) ≡ told (doRule b r popBack)
   unfolding popBack held
   back-popped v p r′ some-in at-p at-v made =
       let g = fine-change b r first .good in

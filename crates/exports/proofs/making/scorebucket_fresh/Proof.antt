@@ -1,6 +1,6 @@
 -- `exports::making::scorebucket_fresh` meets its contract. Assumes nothing.
 use Rattle.replies.proofs.Crossing.{changes}
-use Rattle.replies.specs.InC.{makingInC}
+use Rattle.replies.specs.InC.{makeInC}
 use borrow.Author.Needs.{needs}
 use Rattle.exports.proofs.making.scorebucket_fresh.Statement.{statement}
 use Rattle.exports.proofs.making.scorebucket_fresh.Tie as tie
@@ -12,7 +12,7 @@ made-requires : tie.Need-made-requires
 made-requires c κs = search needs
 
 returns : tie.Need-returns
-returns c = changes (makingInC _) _ _ _ _ _ _ (c .made .ensures) (c .before .fresh .ensures)
+returns c = changes (makeInC _) _ _ _ _ _ _ (c .made .ensures) (c .before .fresh .ensures)
 
 pub scorebucket-fresh-spec : {M : Type 1} → statement M
 scorebucket-fresh-spec = tie.close (tie.spec fresh-requires made-requires returns)

@@ -1,6 +1,6 @@
 -- `exports::making::scorebucket_read_image` meets its contract. Assumes nothing.
 use Rattle.replies.proofs.Crossing.{changes}
-use Rattle.replies.specs.InC.{makingInC}
+use Rattle.replies.specs.InC.{makeInC}
 use borrow.Author.Needs.{needs}
 use Rattle.exports.proofs.making.scorebucket_read_image.Statement.{statement}
 use Rattle.exports.proofs.making.scorebucket_read_image.Tie as tie
@@ -15,7 +15,7 @@ same-length : tie.Need-same-length
 same-length c = search needs
 
 returns : tie.Need-returns
-returns c = changes (makingInC _) _ _ _ _ _ _ (c .made .ensures) (c .before .before .before .read-image .ensures)
+returns c = changes (makeInC _) _ _ _ _ _ _ (c .made .ensures) (c .before .before .before .read-image .ensures)
 
 pub scorebucket-read-image-spec : {M : Type 1} → statement M
 scorebucket-read-image-spec =

@@ -1,7 +1,7 @@
 -- `journals::performing::drain_closed` meets its contract. Assumes nothing.
 use mathlib.Core.Path.{ap}
 use Rattle.journals.proofs.Performs.{stays-shut, opens-closes}
-use Rattle.queue.specs.Drains.{heldOf}
+use Rattle.queue.specs.Drains.{stateOf}
 use borrow.Author.Needs.{needs}
 use Rattle.journals.proofs.performing.drain_closed.Statement.{statement}
 use Rattle.journals.proofs.performing.drain_closed.Tie as tie
@@ -29,7 +29,7 @@ same-length c = search needs
 
 returns : tie.Need-returns
 returns c =
-    stays-shut _ _ _ _ (c .before .before .of-opened .ensures) (c .before .before .before .drain .ensures) _ (ap heldOf (c .enum-told .given .1))
+    stays-shut _ _ _ _ (c .before .before .of-opened .ensures) (c .before .before .before .drain .ensures) _ (ap stateOf (c .enum-told .given .1))
 
 same-length-2 : tie.Need-same-length-2
 same-length-2 c = search needs
@@ -38,7 +38,7 @@ returns-2 : tie.Need-returns-2
 returns-2 c =
     opens-closes _ _ _ _ (c .before .before .before .before .before .before .before .before .of-opened .ensures)
     (c .before .before .before .before .before .before .before .before .before .drain .ensures) _
-    (ap heldOf (c .before .before .before .before .before .before .state .given .1)) _ _ _ (c .of-closed .ensures)
+    (ap stateOf (c .before .before .before .before .before .before .state .given .1)) _ _ _ (c .of-closed .ensures)
     (c .before .before .before .drain-close .ensures)
 
 pub drain-closed-spec : {M : Type 1} → statement M

@@ -2,7 +2,7 @@
 use mathlib.Core.Path.{_≡_, refl, sym, _∙_, ap}
 use native.Mathlib.Omega.{arith}
 use Prim.Native.Nat.{ℕ, _≤_, _+_}
-use Rattle.rules.specs.Tests.{whether}
+use Rattle.rules.specs.Choices.{whether}
 use mathlib.Core.Logic.{_≢_, ⊎-elim, inl, inr}
 use Rattle.journals.proofs.RecordBytes.{either-of, unknown}
 use Rattle.rules.specs.Journals.{lengthOf}

@@ -1,7 +1,7 @@
 -- `journals::records::with_none` meets its contract. Assumes nothing.
 use Rattle.journals.proofs.RecordBytes.{entry-known, other-none}
 use Rattle.rules.specs.Journals.{entryOf}
-use Rattle.rules.specs.Tests.{whether}
+use Rattle.rules.specs.Choices.{whether}
 use Rattle.journals.proofs.records.with_none.Statement.{statement}
 use Rattle.journals.proofs.records.with_none.Tie as tie
 

@@ -1,7 +1,7 @@
 -- `journals::records::with_one` meets its contract. Assumes nothing.
 use Rattle.journals.proofs.RecordBytes.{entry-known, other-one}
 use Rattle.rules.specs.Journals.{entryOf}
-use Rattle.rules.specs.Tests.{whether}
+use Rattle.rules.specs.Choices.{whether}
 use Rattle.journals.proofs.records.with_one.Statement.{statement}
 use Rattle.journals.proofs.records.with_one.Tie as tie
 

@@ -1,7 +1,7 @@
 -- `queue::head_over` meets its contract. Assumes nothing.
 use borrow.Author.Needs.{needs}
 use borrow.Author.Tests.{ne-eqb}
-use Rattle.rules.specs.Tests.{whether}
+use Rattle.rules.specs.Choices.{whether}
 use Rattle.queue.proofs.records.head_over.Statement.{statement}
 use Rattle.queue.proofs.records.head_over.Tie as tie
 

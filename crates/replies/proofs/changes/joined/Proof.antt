@@ -1,8 +1,8 @@
 -- `replies::changes::joined` meets its contract. Assumes nothing.
 use mathlib.Core.Path.{refl}
-use Rattle.rules.specs.Tests.{unless}
+use Rattle.rules.specs.Choices.{unless}
 use Rattle.replies.proofs.Arms.{arm-three, stay}
-use Rattle.replies.specs.InC.{pairingInC}
+use Rattle.replies.specs.InC.{pairInC}
 use Rattle.queue.specs.Pairs.{ofJoined}
 use borrow.Author.Needs.{needs}
 use Rattle.replies.proofs.changes.joined.Statement.{statement}
@@ -29,13 +29,13 @@ refuses-requires c κs = search needs
 returns : tie.Need-returns
 unfolding unless
 returns c =
-    arm-three (pairingInC _ _) ofJoined _ _ _ _ _ _ _ _ (c .done .ensures)
+    arm-three (pairInC _ _) ofJoined _ _ _ _ _ _ _ _ (c .done .ensures)
     (c .before .before .before .store-deque .ensures) (c .before .store-deque2 .ensures) refl
     (c .before .before .before .before .before .before .joined .given .1)
 
 returns-2 : tie.Need-returns-2
 returns-2 c =
-    arm-three (pairingInC _ _) ofJoined _ _ _ _ _ _ _ _ (c .refuses .ensures) refl refl (stay _ _ _ _ _ _)
+    arm-three (pairInC _ _) ofJoined _ _ _ _ _ _ _ _ (c .refuses .ensures) refl refl (stay _ _ _ _ _ _)
     (c .before .before .joined2 .given .1)
 
 pub joined-spec : {M : Type 1} → statement M

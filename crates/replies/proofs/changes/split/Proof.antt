@@ -1,8 +1,8 @@
 -- `replies::changes::split` meets its contract. Assumes nothing.
 use mathlib.Core.Path.{refl}
-use Rattle.rules.specs.Tests.{unless}
+use Rattle.rules.specs.Choices.{unless}
 use Rattle.replies.proofs.Arms.{arm-three, stay}
-use Rattle.replies.specs.InC.{pairingInC}
+use Rattle.replies.specs.InC.{pairInC}
 use Rattle.queue.specs.Pairs.{ofSplit}
 use borrow.Author.Needs.{needs}
 use Rattle.replies.proofs.changes.split.Statement.{statement}
@@ -29,13 +29,13 @@ refuses-requires c κs = search needs
 returns : tie.Need-returns
 unfolding unless
 returns c =
-    arm-three (pairingInC _ _) ofSplit _ _ _ _ _ _ _ _ (c .done .ensures)
+    arm-three (pairInC _ _) ofSplit _ _ _ _ _ _ _ _ (c .done .ensures)
     (c .before .before .before .store-deque .ensures) (c .before .store-deque2 .ensures) refl
     (c .before .before .before .before .before .before .split .given .1)
 
 returns-2 : tie.Need-returns-2
 returns-2 c =
-    arm-three (pairingInC _ _) ofSplit _ _ _ _ _ _ _ _ (c .refuses .ensures) refl refl (stay _ _ _ _ _ _)
+    arm-three (pairInC _ _) ofSplit _ _ _ _ _ _ _ _ (c .refuses .ensures) refl refl (stay _ _ _ _ _ _)
     (c .before .before .split2 .given .1)
 
 pub split-spec : {M : Type 1} → statement M

@@ -5,7 +5,7 @@ use mathlib.Core.Path.{_≡_, sym, ap}
 use Prim.Native.Nat.{ℕ}
 use borrow.Author.Tests.{ne-eqb}
 use Rattle.conditions.specs.Tests.{testOf}
-use Rattle.rules.specs.Tests.{whether}
+use Rattle.rules.specs.Choices.{whether}
 use Rattle.replies.specs.Kinds.{testIn}
 use Rattle.replies.proofs.kinds.test_of_kind.Statement.{statement}
 use Rattle.replies.proofs.kinds.test_of_kind.Tie as tie

@@ -1,6 +1,6 @@
 -- `turns::steps::on_both` meets its contract. Assumes nothing.
 use mathlib.Core.Path.{ap}
-use Rattle.queue.specs.Drains.{heldOf}
+use Rattle.queue.specs.Drains.{stateOf}
 use Rattle.turns.proofs.Known.{first-known, second-known, pair-call-known}
 use Rattle.turns.proofs.Taken.{both-over, other-over}
 use Rattle.turns.proofs.Told.{over, appended, split, compared}
@@ -18,7 +18,7 @@ passed-over-requires : tie.Need-passed-over-requires
 passed-over-requires c κs = search needs
 
 returns : tie.Need-returns
-returns c = over _ _ _ _ _ _ (both-over _ _ _ _ (ap heldOf (c .before .enum-told .given .1))) (c .passed-over .ensures)
+returns c = over _ _ _ _ _ _ (both-over _ _ _ _ (ap stateOf (c .before .enum-told .given .1))) (c .passed-over .ensures)
 
 enum-known-second : tie.Need-enum-known-second
 enum-known-second c = search needs
@@ -32,7 +32,7 @@ passed-over-requires-2 c κs = search needs
 returns-2 : tie.Need-returns-2
 returns-2 c =
     first-known _ _ _ _ _ _ (c .before .before .before .before .first .given .1) _
-    (over _ _ _ _ _ _ (other-over _ _ _ _ (ap heldOf (c .before .enum-told2 .given .1))) (c .passed-over2 .ensures))
+    (over _ _ _ _ _ _ (other-over _ _ _ _ (ap stateOf (c .before .enum-told2 .given .1))) (c .passed-over2 .ensures))
 
 enum-told-3 : tie.Need-enum-told-3
 enum-told-3 c = search needs

@@ -1,6 +1,6 @@
 -- `turns::steps::on_drain` meets its contract. Assumes nothing.
 use mathlib.Core.Path.{ap}
-use Rattle.queue.specs.Drains.{heldOf}
+use Rattle.queue.specs.Drains.{stateOf}
 use Rattle.turns.proofs.Known.{first-known}
 use Rattle.turns.proofs.Taken.{drain-over}
 use Rattle.turns.proofs.Told.{over, drained}
@@ -19,7 +19,7 @@ passed-over-requires c κs = search needs
 
 returns : tie.Need-returns
 returns c =
-    λ y. over _ y _ _ _ _ (drain-over _ _ _ _ (ap heldOf (c .before .enum-told .given .1))) (c .passed-over .ensures)
+    λ y. over _ y _ _ _ _ (drain-over _ _ _ _ (ap stateOf (c .before .enum-told .given .1))) (c .passed-over .ensures)
 
 drain-call-requires : tie.Need-drain-call-requires
 drain-call-requires c κs = search needs

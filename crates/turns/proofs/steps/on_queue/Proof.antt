@@ -1,6 +1,6 @@
 -- `turns::steps::on_queue` meets its contract. Assumes nothing.
 use mathlib.Core.Path.{ap}
-use Rattle.queue.specs.Drains.{heldOf}
+use Rattle.queue.specs.Drains.{stateOf}
 use Rattle.turns.proofs.Known.{first-known, queue-call-known}
 use Rattle.turns.proofs.Taken.{queue-over}
 use Rattle.turns.proofs.Told.{over, changed, asked}
@@ -19,7 +19,7 @@ passed-over-requires c κs = search needs
 
 returns : tie.Need-returns
 returns c =
-    λ y. over _ y _ _ _ _ (queue-over _ _ _ _ (ap heldOf (c .before .enum-told .given .1))) (c .passed-over .ensures)
+    λ y. over _ y _ _ _ _ (queue-over _ _ _ _ (ap stateOf (c .before .enum-told .given .1))) (c .passed-over .ensures)
 
 enum-known-call : tie.Need-enum-known-call
 enum-known-call c = search needs
