@@ -1,4 +1,5 @@
--- A refused answer has its refusal's number; an answer of which it is known which it is says what that one does. Assumes nothing.
+-- A refused answer has its refusal's number; an answer of which it
+-- is known which it is says what that one does. Assumes nothing.
 use mathlib.Core.Option.{Option}
 use mathlib.Core.Path.{_≡_, sym, _∙_, ap}
 use Prim.Native.Nat.{ℕ}

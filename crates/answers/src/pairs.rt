@@ -11,7 +11,8 @@ ghost use Rattle.queue.specs.Drains.{stateOf};
 ghost use Rattle.queue.specs.Pairs.{ofJoined, ofSplit};
 ghost use Rattle.answers.specs.Answers.{bothAnswered, ofStepAnswer};
 
-// What a call on either of two queues answers: the refusal number, the moved count, what was handed over, and both records.
+// What a call on either of two queues answers: the refusal number,
+// the moved count, what was handed over, and both records.
 pub struct StepAnswer {
     pub refused: usize,
     pub moved: usize,

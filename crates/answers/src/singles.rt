@@ -13,7 +13,8 @@ ghost use Rattle.queue.specs.Drains.{stateOf};
 ghost use Rattle.elements.specs.Answers.{ofHanded};
 ghost use Rattle.answers.specs.Answers.{madeAnswer, ofAnswer};
 
-// What a call on one queue answers: the refusal number, 0 if there is none; the moved count; the record; what was given.
+// What a call on one queue answers: the refusal number, 0 if
+// there is none; the moved count; the record; what was given.
 pub struct Answer {
     pub refused: usize,
     pub moved: usize,

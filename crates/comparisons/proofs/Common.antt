@@ -65,10 +65,12 @@ pub common-in : (l m : List ℕ) → (commonLength l m ≤ length l) × (commonL
 unfolding commonLength
 common-in [] m = omega arith
 common-in (v ∷ l) [] = omega arith
-common-in (v ∷ l) (w ∷ m) = by-test (eqb v w) (λ (k : ℕ). (k ≤ suc (length l)) × (k ≤ suc (length m))) (λ t. omega (arith, common-in l m)) (λ t. omega arith)
+common-in (v ∷ l) (w ∷ m) = by-test (eqb v w) (λ (k : ℕ). (k ≤ suc (length l)) × (k ≤ suc (length m)))
+    (λ t. omega (arith, common-in l m)) (λ t. omega arith)
 
 -- the elements behind them differ
-pub common-differ : (l m : List ℕ) → commonLength l m < length l → commonLength l m < length m → getD l (commonLength l m) 0 ≢ getD m (commonLength l m) 0
+pub common-differ : (l m : List ℕ) → commonLength l m < length l → commonLength l m < length m
+    → getD l (commonLength l m) 0 ≢ getD m (commonLength l m) 0
 unfolding commonLength
 common-differ [] m = λ in-l in-m. absurd (not-suc-le-zero in-l)
 common-differ (v ∷ l) [] = λ in-l in-m. absurd (not-suc-le-zero in-m)

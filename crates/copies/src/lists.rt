@@ -1,5 +1,5 @@
-// Lists laid into the slots from a place on, past the last slot into the first ones. What fits before the end goes into the part of the slots that is
-// lent from the place on, and the rest into the slots from the first on.
+// Lists laid into the slots from a place on, past the last slot into the first ones. What fits before the end
+// goes into the part of the slots that is lent from the place on, and the rest into the slots from the first on.
 use places::WrappedIndex;
 use stretches::copy_in;
 use stretches::copy_in_reversed;
@@ -13,7 +13,8 @@ ghost use Rattle.rules.specs.Slots.{lay};
 
 // Copies src into the slots from dst on, where it runs past the last slot.
 fn copy_slice_apart(slots: &mut [u32], dst: WrappedIndex, src: &[u32])
-    requires { ⌜ (dst .0 < length (now slots)) × (length (now src) ≤ length (now slots)) × (length (now slots) ≤ mostSlots) ⌝ }
+    requires { ⌜ (dst .0 < length (now slots)) × (length (now src) ≤ length (now slots))
+        × (length (now slots) ≤ mostSlots) ⌝ }
     requires { ⌜ length (now slots) - dst .0 < length (now src) ⌝ }
     ensures { λ _. ⌜ now (slots .exit) ≡ lay (now (slots .entry)) (dst .0) (now (src .entry)) ⌝ }
 {
@@ -25,7 +26,8 @@ fn copy_slice_apart(slots: &mut [u32], dst: WrappedIndex, src: &[u32])
 
 // Copies src into the slots from dst on.
 pub fn copy_slice(slots: &mut [u32], dst: WrappedIndex, src: &[u32])
-    requires { ⌜ (dst .0 < length (now slots)) × (length (now src) ≤ length (now slots)) × (length (now slots) ≤ mostSlots) ⌝ }
+    requires { ⌜ (dst .0 < length (now slots)) × (length (now src) ≤ length (now slots))
+        × (length (now slots) ≤ mostSlots) ⌝ }
     ensures { λ _. ⌜ now (slots .exit) ≡ lay (now (slots .entry)) (dst .0) (now (src .entry)) ⌝ }
 {
     let w = dst.as_index();

@@ -11,7 +11,8 @@ ghost use Rattle.copies.specs.Overlap.{OneOverlap, OneWraps};
 
 // Copies where dst is before src, or clear of the len slots from src on: what stands first is copied first.
 fn copy_dst_before_src(slots: &mut [u32], src: WrappedIndex, dst: WrappedIndex, len: usize)
-    requires { ⌜ (src .0 < length (now slots)) × (dst .0 < length (now slots)) × (len ≤ length (now slots)) × (length (now slots) ≤ mostSlots) ⌝ }
+    requires { ⌜ (src .0 < length (now slots)) × (dst .0 < length (now slots)) × (len ≤ length (now slots))
+        × (length (now slots) ≤ mostSlots) ⌝ }
     requires { ⌜ len ≤ stepBack (length (now slots)) (dst .0) (src .0) ⌝ }
     requires { ⌜ OneWraps (length (now slots)) (src .0) (dst .0) len ⌝ }
     ensures { λ _. ⌜ now (slots .exit) ≡ copied (now (slots .entry)) (src .0) (dst .0) len ⌝ }
@@ -79,8 +80,10 @@ fn copy_dst_before_src(slots: &mut [u32], src: WrappedIndex, dst: WrappedIndex, 
 
 // Copies where src is before dst, which is one of the len slots from src on: what stands last is copied first.
 fn copy_src_before_dst(slots: &mut [u32], src: WrappedIndex, dst: WrappedIndex, len: usize)
-    requires { ⌜ (src .0 < length (now slots)) × (dst .0 < length (now slots)) × (len ≤ length (now slots)) × (length (now slots) ≤ mostSlots) ⌝ }
-    requires { ⌜ (0 < stepBack (length (now slots)) (dst .0) (src .0)) × (stepBack (length (now slots)) (dst .0) (src .0) + len ≤ length (now slots)) ⌝ }
+    requires { ⌜ (src .0 < length (now slots)) × (dst .0 < length (now slots)) × (len ≤ length (now slots))
+        × (length (now slots) ≤ mostSlots) ⌝ }
+    requires { ⌜ (0 < stepBack (length (now slots)) (dst .0) (src .0))
+        × (stepBack (length (now slots)) (dst .0) (src .0) + len ≤ length (now slots)) ⌝ }
     requires { ⌜ OneWraps (length (now slots)) (src .0) (dst .0) len ⌝ }
     ensures { λ _. ⌜ now (slots .exit) ≡ copied (now (slots .entry)) (src .0) (dst .0) len ⌝ }
 {
@@ -147,7 +150,8 @@ fn copy_src_before_dst(slots: &mut [u32], src: WrappedIndex, dst: WrappedIndex, 
 
 // Copies the len slots from src on to dst, where one of the two runs past the last slot, or both do.
 fn wrap_copy_apart(slots: &mut [u32], src: WrappedIndex, dst: WrappedIndex, len: usize)
-    requires { ⌜ (src .0 < length (now slots)) × (dst .0 < length (now slots)) × (len ≤ length (now slots)) × (length (now slots) ≤ mostSlots) ⌝ }
+    requires { ⌜ (src .0 < length (now slots)) × (dst .0 < length (now slots)) × (len ≤ length (now slots))
+        × (length (now slots) ≤ mostSlots) ⌝ }
     requires { ⌜ OneOverlap (length (now slots)) (src .0) (dst .0) len ⌝ }
     requires { ⌜ OneWraps (length (now slots)) (src .0) (dst .0) len ⌝ }
     ensures { λ _. ⌜ now (slots .exit) ≡ copied (now (slots .entry)) (src .0) (dst .0) len ⌝ }
@@ -163,9 +167,11 @@ fn wrap_copy_apart(slots: &mut [u32], src: WrappedIndex, dst: WrappedIndex, len:
     }
 }
 
-// Copies the len slots from src on to dst, where both may run past the last slot and go on in the first. At most one stretch of the two overlaps.
+// Copies the len slots from src on to dst, where both may run past the last
+// slot and go on in the first. At most one stretch of the two overlaps.
 pub fn wrap_copy(slots: &mut [u32], src: WrappedIndex, dst: WrappedIndex, len: usize)
-    requires { ⌜ (src .0 < length (now slots)) × (dst .0 < length (now slots)) × (len ≤ length (now slots)) × (length (now slots) ≤ mostSlots) ⌝ }
+    requires { ⌜ (src .0 < length (now slots)) × (dst .0 < length (now slots)) × (len ≤ length (now slots))
+        × (length (now slots) ≤ mostSlots) ⌝ }
     requires { ⌜ OneOverlap (length (now slots)) (src .0) (dst .0) len ⌝ }
     ensures { λ _. ⌜ now (slots .exit) ≡ copied (now (slots .entry)) (src .0) (dst .0) len ⌝ }
 {

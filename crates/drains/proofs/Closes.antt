@@ -22,10 +22,12 @@ use Rattle.rules.specs.Choices.{whether, unless}
 
 -- the smaller of two
 smaller : (s t : ℕ) → whether (ltb s t) s t ≡ min s t
-smaller s t = by-test (ltb s t) (λ m. m ≡ min s t) (λ lt. omega (arith, ltb→lt s t lt)) (λ ge. omega (arith, nltb→le s t ge))
+smaller s t = by-test (ltb s t) (λ m. m ≡ min s t) (λ lt. omega (arith, ltb→lt s t lt))
+    (λ ge. omega (arith, nltb→le s t ge))
 
 -- an accepted closing: what is kept is laid from the new head
-pub drain-closed : (b b′ : List ℕ) (d : Drain) (h′ m : ℕ) (r : Rec) → onDrain (length b) d ≡ 0 → HoleClosed b b′ (d .head) (d .start) 0 (d .drained) (d .tail) h′ m
+pub drain-closed : (b b′ : List ℕ) (d : Drain) (h′ m : ℕ) (r : Rec) → onDrain (length b) d ≡ 0
+    → HoleClosed b b′ (d .head) (d .start) 0 (d .drained) (d .tail) h′ m
     → r ≡ stepped (asOpened d) (whether (eqb (d .start + d .tail) 0) 0 h′) (d .start + d .tail)
     → (record { refused = 0; moved = m; state = shut r; handed = none }, b′) ≡ told (doClose b d)
 unfolding doClose closeDrain closedHead closedMoved joinedHead joinedMoved unless keptList held
@@ -34,7 +36,12 @@ drain-closed b b′ d h′ m r first c made =
     let kept = take (d .start) whole ++ drop (d .start + d .drained) whole in
     let many : length kept ≡ d .start + d .tail = kept-length whole d (length-listOf b (d .head) _) in
     let at-slots : b′ ≡ lay b h′ kept = sym (lay-none b′ _) ∙ (rw (add-zero (d .drained)) at (c .room .laid [] refl)) in
-    let at-head : h′ ≡ whether (eqb (d .drained) 0) (d .head) (whether (ltb (d .start) (d .tail)) (place (length b) (d .head) (d .drained)) (d .head)) = rw (add-zero (d .start)) at (c .head) in
-    let at-moved : m ≡ closedMoved d = (rw (add-zero (d .start)) at (c .moved)) ∙ ap (whether (eqb (d .drained) 0) 0) (smaller (d .start) (d .tail)) in
+    let at-head : h′ ≡ whether (eqb (d .drained) 0) (d .head)
+    (whether (ltb (d .start) (d .tail)) (place (length b) (d .head) (d .drained)) (d .head)) =
+    rw (add-zero (d .start)) at (c .head) in
+    let at-moved : m ≡ closedMoved d =
+    (rw (add-zero (d .start)) at (c .moved)) ∙ ap (whether (eqb (d .drained) 0) 0) (smaller (d .start) (d .tail)) in
     rw first
-    (accepted-as b (asOpened d) (closeDrain d) m _ _ r none b′ made (ap (whether (eqb (d .start + d .tail) 0) 0) at-head) refl at-moved refl (at-slots ∙ sym (lay-over b h′ _ kept many)))
+    (accepted-as b (asOpened d) (closeDrain d) m _ _ r none b′ made
+    (ap (whether (eqb (d .start + d .tail) 0) 0) at-head) refl at-moved refl
+    (at-slots ∙ sym (lay-over b h′ _ kept many)))

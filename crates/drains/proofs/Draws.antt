@@ -24,7 +24,8 @@ use Rattle.queue.specs.declared.refusals.Checked.the-variants.{Refused as Faile
 
 module _ (b : List ℕ) (r : Rec) (s e : ℕ) where
   -- refused: the same record, and nothing is written
-  stopped : (n : ℕ) → n ≢ 0 → onTaking (length b) r s e ≡ n → (record { refused = n; moved = 0; state = shut r; handed = none }, b) ≡ told (doOpen b r s e)
+  stopped : (n : ℕ) → n ≢ 0 → onTaking (length b) r s e ≡ n
+      → (record { refused = n; moved = 0; state = shut r; handed = none }, b) ≡ told (doOpen b r s e)
   unfolding doOpen unchanged
   stopped n ne z = rw (z, unless-stop n _ _ ne)
 
@@ -32,7 +33,8 @@ module _ (b : List ℕ) (r : Rec) (s e : ℕ) where
   pub open-first : (t : Checked) → numberIn t ≡ onChange (length b) r 0 → (x : Refusal) → t ≡ Failed x
       → (record { refused = numberOf x; moved = 0; state = shut r; handed = none }, b) ≡ told (doOpen b r s e)
   unfolding onTaking
-  open-first t asked x f = stopped (numberOf x) (some-number x) (change-stop (length b) r _ _ (some-number x) (failed-number t x _ asked f))
+  open-first t asked x f = stopped (numberOf x) (some-number x)
+      (change-stop (length b) r _ _ (some-number x) (failed-number t x _ asked f))
 
   module _ (first : onChange (length b) r 0 ≡ 0) where
     -- by the range
@@ -54,25 +56,30 @@ module _ (b : List ℕ) (d : Drain) (first : onDrain (length b) d ≡ 0) where
   module _ (step : ℕ → Outcome) where
     -- none remains: Nothing, without change
     draws-none : step 0 ≡ unchanged b (draining d) 0 → d .remaining ≡ 0
-        → (record { refused = 0; moved = 0; state = draining d; handed = none }, b) ≡ told (unless (onDrain (length b) d) (step (d .remaining)) (unchanged b (draining d) (onDrain (length b) d)))
+        → (record { refused = 0; moved = 0; state = draining d; handed = none }, b)
+        ≡ told (unless (onDrain (length b) d) (step (d .remaining)) (unchanged b (draining d) (onDrain (length b) d)))
     unfolding unchanged unless
     draws-none none-done z = rw (first, ap step z, none-done)
 
     -- v, the element at position i of the list in the slots, is handed over; r is the record that it was read by
-    draws-some : (i v : ℕ) (d′ : Drain) → step (suc (d .remaining - 1)) ≡ handsOver b d′ (getD (held b (asOpened d)) i 0)
+    draws-some : (i v : ℕ) (d′ : Drain)
+        → step (suc (d .remaining - 1)) ≡ handsOver b d′ (getD (held b (asOpened d)) i 0)
         → d .remaining ≢ 0 → (r : Rec) → r ≡ asOpened d → v ≡ getD (held b r) i 0
-        → (record { refused = 0; moved = 0; state = draining d′; handed = some v }, b) ≡ told (unless (onDrain (length b) d) (step (d .remaining)) (unchanged b (draining d) (onDrain (length b) d)))
+        → (record { refused = 0; moved = 0; state = draining d′; handed = some v }, b)
+        ≡ told (unless (onDrain (length b) d) (step (d .remaining)) (unchanged b (draining d) (onDrain (length b) d)))
     unfolding handsOver unless
     draws-some i v d′ done some-left r whole is =
         let many : d .remaining ≡ suc (d .remaining - 1) = omega arith in
         rw (first, is, whole, ap step many, done)
 
   -- `next` and `next_back` by these
-  pub next-none : d .remaining ≡ 0 → (record { refused = 0; moved = 0; state = draining d; handed = none }, b) ≡ told (doNext b d)
+  pub next-none : d .remaining ≡ 0
+      → (record { refused = 0; moved = 0; state = draining d; handed = none }, b) ≡ told (doNext b d)
   unfolding doNext nextOf
   next-none = draws-none (nextOf b d) refl
 
-  pub next-back-none : d .remaining ≡ 0 → (record { refused = 0; moved = 0; state = draining d; handed = none }, b) ≡ told (doNextBack b d)
+  pub next-back-none : d .remaining ≡ 0
+      → (record { refused = 0; moved = 0; state = draining d; handed = none }, b) ≡ told (doNextBack b d)
   unfolding doNextBack nextBackOf
   next-back-none = draws-none (nextBackOf b d) refl
 

@@ -1,4 +1,5 @@
--- An answer that carries an element is fixed by what is said of it: two of which the same is said are one. Assumes nothing.
+-- An answer that carries an element is fixed by what is said of
+-- it: two of which the same is said are one. Assumes nothing.
 use mathlib.Core.Option.{Option, none, some}
 use mathlib.Core.Path.{_≡_, refl}
 use Prim.Native.Nat.{ℕ}

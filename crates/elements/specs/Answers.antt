@@ -28,7 +28,8 @@ ofHanded (handed.Number v q m) = answer 0 m q (some v)
 ofHanded (handed.Nothing q m) = answer 0 m q none
 ofHanded (handed.Refused x q m) = answer (numberOf x) m q none
 
--- of `next` and `next_back`: what is handed over and the drain's record after; Nothing, or a refusal number, and the same
+-- of `next` and `next_back`: what is handed over and the drain's
+-- record after; Nothing, or a refusal number, and the same
 abbrev pub ofDrawn : Drawn → Answer
 ofDrawn (draining.Number v d m) = drawing 0 m d (some v)
 ofDrawn (draining.Nothing d m) = drawing 0 m d none

@@ -26,7 +26,8 @@ pub fn truncate(slots: &[u32], q: Deque, n: usize) -> Change
 
 // Keeps the last n.
 pub fn truncate_front(slots: &[u32], q: Deque, n: usize) -> Change
-    ensures { λ r. ⌜ (ofChange r, now (slots .entry)) ≡ told (doRule (now (slots .entry)) (recOf q) (truncateFront n)) ⌝ }
+    ensures { λ r.
+        ⌜ (ofChange r, now (slots .entry)) ≡ told (doRule (now (slots .entry)) (recOf q) (truncateFront n)) ⌝ }
 {
     let cap = slots.len();
     if let Checked::Refused(refusal) = queue::check_change(cap, q) {

@@ -83,14 +83,16 @@ fn only_if(test: Test, q: Deque, popped: Handed) -> Handed
 
 // Hands the first element over, if it meets the test.
 pub fn pop_front_if(slots: &[u32], q: Deque, test: Test) -> Handed
-    ensures { λ r. ⌜ (ofHanded r, now (slots .entry)) ≡ told (doRule (now (slots .entry)) (recOf q) (popFrontIf (testOf test))) ⌝ }
+    ensures { λ r.
+        ⌜ (ofHanded r, now (slots .entry)) ≡ told (doRule (now (slots .entry)) (recOf q) (popFrontIf (testOf test))) ⌝ }
 {
     only_if(test, q, pop_front(slots, q))
 }
 
 // Hands the last element over, if it meets the test.
 pub fn pop_back_if(slots: &[u32], q: Deque, test: Test) -> Handed
-    ensures { λ r. ⌜ (ofHanded r, now (slots .entry)) ≡ told (doRule (now (slots .entry)) (recOf q) (popBackIf (testOf test))) ⌝ }
+    ensures { λ r.
+        ⌜ (ofHanded r, now (slots .entry)) ≡ told (doRule (now (slots .entry)) (recOf q) (popBackIf (testOf test))) ⌝ }
 {
     only_if(test, q, pop_back(slots, q))
 }

@@ -38,6 +38,7 @@ module _ (b : List ℕ) (s d n t : ℕ) where
     to-out lies out = rw (le-leb (length b) mostSlots few, lies, out)
 
     -- the copies were asked for the places of s and d
-    pub copies-it : (x y : ℕ) (b′ : List ℕ) → x ≡ s → y ≡ d → b′ ≡ copiedTimes t b x y n → inSlots (length b) s n ≡ true → inSlots (length b) d n ≡ true → (0, b′) ≡ copyTold b s d n t
+    pub copies-it : (x y : ℕ) (b′ : List ℕ) → x ≡ s → y ≡ d → b′ ≡ copiedTimes t b x y n → inSlots (length b) s n ≡ true
+        → inSlots (length b) d n ≡ true → (0, b′) ≡ copyTold b s d n t
     unfolding copyTold onCopy onSlots ask unless
     copies-it x y b′ from to is lies lies′ = rw (le-leb (length b) mostSlots few, lies, lies′, ← from, ← to, is)

@@ -19,7 +19,8 @@ fn copy_times(slots: &mut [u32], src: WrappedIndex, dst: WrappedIndex, n: usize,
     }
 }
 
-// Copies the n slots from `src` on to `dst`, which may overlap, so many times over. Gives 1 for too many slots, 3 where a stretch is out of them, else 0.
+// Copies the n slots from `src` on to `dst`, which may overlap, so many times
+// over. Gives 1 for too many slots, 3 where a stretch is out of them, else 0.
 #[no_mangle]
 pub extern "C" fn scorebucket_copy(
     slots: &mut [u32],

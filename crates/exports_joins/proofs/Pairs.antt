@@ -19,7 +19,8 @@ module _ (b : List ℕ) (r r′ : Rec) (same : r ≡ r′) (old : Words) (p : Sa
       on-record old p w a s (doOpen b r x y) (doOpen b r′ x y) (ap (λ (z : Rec). doOpen b z x y) same) flat is
 
   -- two records, w′ the other's words, and the slots s and t
-  pairs : (old′ w w′ : Words) (a : PairAnswer) (s t : List ℕ) (m m′ : PairOutcome) → m ≡ m′ → (p, w, w′) ≡ pairInC old old′ a
+  pairs : (old′ w w′ : Words) (a : PairAnswer) (s t : List ℕ) (m m′ : PairOutcome) → m ≡ m′
+      → (p, w, w′) ≡ pairInC old old′ a
       → (a, s, t) ≡ toldPair m → (p, w, w′, s, t) ≡ pairToldInC old old′ m′
   pairs old′ w w′ a s t m m′ is-same flat is =
       ap (λ (q : Said × Words × Words). (q .0, q .1, q .2, s, t)) flat
@@ -27,13 +28,15 @@ module _ (b : List ℕ) (r r′ : Rec) (same : r ≡ r′) (old : Words) (p : Sa
       ∙ ap (λ (x : PairOutcome). pairToldInC old old′ x) is-same
 
   pub appends : (b′ : List ℕ) (o o′ : Rec) → o ≡ o′ → (old′ w w′ : Words) (a : PairAnswer) (s t : List ℕ)
-      → (p, w, w′) ≡ pairInC old old′ a → (a, s, t) ≡ toldPair (doAppend b r b′ o) → (p, w, w′, s, t) ≡ pairToldInC old old′ (doAppend b r′ b′ o′)
+      → (p, w, w′) ≡ pairInC old old′ a → (a, s, t) ≡ toldPair (doAppend b r b′ o)
+      → (p, w, w′, s, t) ≡ pairToldInC old old′ (doAppend b r′ b′ o′)
   appends b′ o o′ others old′ w w′ a s t flat is =
       pairs old′ w w′ a s t (doAppend b r b′ o) (doAppend b r′ b′ o′)
       (ap (λ (x : Rec). doAppend b x b′ o) same ∙ ap (λ (x : Rec). doAppend b r′ b′ x) others)
       flat is
 
   pub splits : (b′ : List ℕ) (n : ℕ) (old′ w w′ : Words) (a : PairAnswer) (s t : List ℕ)
-      → (p, w, w′) ≡ pairInC old old′ a → (a, s, t) ≡ toldPair (doSplit b r b′ n) → (p, w, w′, s, t) ≡ pairToldInC old old′ (doSplit b r′ b′ n)
+      → (p, w, w′) ≡ pairInC old old′ a → (a, s, t) ≡ toldPair (doSplit b r b′ n)
+      → (p, w, w′, s, t) ≡ pairToldInC old old′ (doSplit b r′ b′ n)
   splits b′ n old′ w w′ a s t flat is =
       pairs old′ w w′ a s t (doSplit b r b′ n) (doSplit b r′ b′ n) (ap (λ (x : Rec). doSplit b x b′ n) same) flat is

@@ -33,21 +33,25 @@ use Rattle.queue.specs.declared.refusals.Checked.the-variants.{Refused as Faile
 -- ---- a lent slice
 
 -- all tests of the call were made at once, and one refused
-module _ (b : List ℕ) (r : Rec) (vs : List ℕ) (t : Checked) (x : Refusal) (asked : numberIn t ≡ onChange (length b) r (room (length b) (r .len + length vs))) (f : t ≡ Failed x) where
+module _ (b : List ℕ) (r : Rec) (vs : List ℕ) (t : Checked) (x : Refusal)
+    (asked : numberIn t ≡ onChange (length b) r (room (length b) (r .len + length vs))) (f : t ≡ Failed x) where
   refused-by : (R : Rule) → R .own (length b) (r .len) ≡ room (length b) (r .len + length vs)
       → (record { refused = numberOf x; moved = 0; state = shut r; handed = none }, b) ≡ told (doRule b r R)
   unfolding doRule unchanged refusal
   refused-by R own = rw (own, failed-number t x _ asked f, unless-stop (numberOf x) _ _ (some-number x))
 
-  pub extended-refused : (record { refused = numberOf x; moved = 0; state = shut r; handed = none }, b) ≡ told (doRule b r (extendWith vs))
+  pub extended-refused : (record { refused = numberOf x; moved = 0; state = shut r; handed = none }, b)
+      ≡ told (doRule b r (extendWith vs))
   unfolding extendWith
   extended-refused = refused-by (extendWith vs) refl
 
-  pub prepended-refused : (record { refused = numberOf x; moved = 0; state = shut r; handed = none }, b) ≡ told (doRule b r (prepend vs))
+  pub prepended-refused : (record { refused = numberOf x; moved = 0; state = shut r; handed = none }, b)
+      ≡ told (doRule b r (prepend vs))
   unfolding prepend
   prepended-refused = refused-by (prepend vs) refl
 
-  pub fronted-refused : (record { refused = numberOf x; moved = 0; state = shut r; handed = none }, b) ≡ told (doRule b r (extendFront vs))
+  pub fronted-refused : (record { refused = numberOf x; moved = 0; state = shut r; handed = none }, b)
+      ≡ told (doRule b r (extendFront vs))
   unfolding extendFront prepend
   fronted-refused = refused-by (extendFront vs) (rw length-reverse)
 
@@ -57,26 +61,33 @@ module _ (b : List ℕ) (r : Rec) (vs : List ℕ) (m : More b r (length vs)) whe
   empty e = map-brought vs ∙ sym (take-all 0 vs (omega arith))
 
   -- nothing is done
-  pub extended-none : length vs ≡ 0 → (record { refused = 0; moved = 0; state = shut r; handed = none }, b) ≡ told (doRule b r (extendWith vs))
+  pub extended-none : length vs ≡ 0
+      → (record { refused = 0; moved = 0; state = shut r; handed = none }, b) ≡ told (doRule b r (extendWith vs))
   unfolding extendWith
-  extended-none e = accepts-same b r (extendWith vs) (m .first) (some-room _ _ (m .fits)) refl (omega arith) refl refl (rw (empty e) (append-nil (held b r)))
+  extended-none e = accepts-same b r (extendWith vs) (m .first) (some-room _ _ (m .fits)) refl (omega arith) refl refl
+      (rw (empty e) (append-nil (held b r)))
 
-  pub prepended-none : length vs ≡ 0 → (record { refused = 0; moved = 0; state = shut r; handed = none }, b) ≡ told (doRule b r (prepend vs))
+  pub prepended-none : length vs ≡ 0
+      → (record { refused = 0; moved = 0; state = shut r; handed = none }, b) ≡ told (doRule b r (prepend vs))
   unfolding prepend
-  prepended-none e = accepts-same b r (prepend vs) (m .first) (some-room _ _ (m .fits)) (wrapped-high _ _ (omega arith) ∙ omega arith) (omega arith) refl refl (rw (empty e))
+  prepended-none e = accepts-same b r (prepend vs) (m .first) (some-room _ _ (m .fits))
+      (wrapped-high _ _ (omega arith) ∙ omega arith) (omega arith) refl refl (rw (empty e))
 
   -- it is laid behind the last element
-  pub extended : length vs ≢ 0 → (p : ℕ) (r′ : Rec) (b′ : List ℕ) → b′ ≡ lay b p vs → p ≡ place (length b) (r .head) (r .len) → r′ ≡ stepped r (r .head) (r .len + length vs)
+  pub extended : length vs ≢ 0 → (p : ℕ) (r′ : Rec) (b′ : List ℕ) → b′ ≡ lay b p vs
+      → p ≡ place (length b) (r .head) (r .len) → r′ ≡ stepped r (r .head) (r .len + length vs)
       → (record { refused = 0; moved = 0; state = shut r′; handed = none }, b′) ≡ told (doRule b r (extendWith vs))
   unfolding extendWith held
   extended some p r′ b′ laid at-p made =
       let g = m .ok .good in
       let fits = m .fits in
-      accepts b r (extendWith vs) (m .first) (some-room _ _ fits) 0 (r .head) (r .len + length vs) r′ none b′ made refl refl refl refl
+      accepts b r (extendWith vs) (m .first) (some-room _ _ fits) 0 (r .head) (r .len + length vs) r′ none b′ made refl
+      refl refl refl
       (laid ∙ ap (λ (i : ℕ). lay b i vs) at-p ∙ rw map-brought (lay-behind b (r .head) (r .len) vs (omega arith) fits))
 
   -- head steps back by its length
-  module _ (some : length vs ≢ 0) (r′ : Rec) (made : r′ ≡ stepped r (stepBack (length b) (r .head) (length vs)) (r .len + length vs)) where
+  module _ (some : length vs ≢ 0) (r′ : Rec)
+      (made : r′ ≡ stepped r (stepBack (length b) (r .head) (length vs)) (r .len + length vs)) where
     new-head : r′ .head ≡ stepBack (length b) (r .head) (length vs)
     unfolding stepped
     new-head = ap (λ (q : Rec). q .head) made
@@ -88,12 +99,14 @@ module _ (b : List ℕ) (r : Rec) (vs : List ℕ) (m : More b r (length vs)) whe
         (omega (arith, new-head, stepBack-good (length b) (r .head) (g .placed) (length vs)), omega arith)
 
     -- and it is laid from there
-    pub prepended : (b′ : List ℕ) → b′ ≡ lay b (r′ .head) vs → (record { refused = 0; moved = 0; state = shut r′; handed = none }, b′) ≡ told (doRule b r (prepend vs))
+    pub prepended : (b′ : List ℕ) → b′ ≡ lay b (r′ .head) vs
+        → (record { refused = 0; moved = 0; state = shut r′; handed = none }, b′) ≡ told (doRule b r (prepend vs))
     unfolding prepend held
     prepended b′ laid =
         let g = m .ok .good in
         let fits = m .fits in
-        accepts b r (prepend vs) (m .first) (some-room _ _ fits) 0 (stepBack (length b) (r .head) (length vs)) (r .len + length vs) r′ none b′ made refl refl refl refl
+        accepts b r (prepend vs) (m .first) (some-room _ _ fits) 0 (stepBack (length b) (r .head) (length vs))
+        (r .len + length vs) r′ none b′ made refl refl refl refl
         (laid ∙ rw (map-brought, new-head) (lay-before b (r .head) (r .len) vs (omega arith) fits))
 
 -- reversed
@@ -101,24 +114,31 @@ module _ (b : List ℕ) (r : Rec) (vs : List ℕ) (m : More b r (length vs)) whe
   turned : More b r (length (reverse vs))
   turned = rw length-reverse m
 
-  pub fronted-none : length vs ≡ 0 → (record { refused = 0; moved = 0; state = shut r; handed = none }, b) ≡ told (doRule b r (extendFront vs))
+  pub fronted-none : length vs ≡ 0
+      → (record { refused = 0; moved = 0; state = shut r; handed = none }, b) ≡ told (doRule b r (extendFront vs))
   unfolding extendFront
   fronted-none e = prepended-none b r (reverse vs) turned (length-reverse vs ∙ e)
 
-  pub fronted : length vs ≢ 0 → (r′ : Rec) → r′ ≡ stepped r (stepBack (length b) (r .head) (length vs)) (r .len + length vs) → (b′ : List ℕ) → b′ ≡ lay b (r′ .head) (reverse vs)
+  pub fronted : length vs ≢ 0 → (r′ : Rec)
+      → r′ ≡ stepped r (stepBack (length b) (r .head) (length vs)) (r .len + length vs) → (b′ : List ℕ)
+      → b′ ≡ lay b (r′ .head) (reverse vs)
       → (record { refused = 0; moved = 0; state = shut r′; handed = none }, b′) ≡ told (doRule b r (extendFront vs))
   unfolding extendFront
-  fronted some r′ made b′ laid = prepended b r (reverse vs) turned (λ e. some (sym (length-reverse vs) ∙ e)) r′ (rw length-reverse made) b′ laid
+  fronted some r′ made b′ laid =
+      prepended b r (reverse vs) turned (λ e. some (sym (length-reverse vs) ∙ e)) r′ (rw length-reverse made) b′ laid
 
 -- ---- `resize`
 
 module _ (b : List ℕ) (r : Rec) (first : onChange (length b) r 0 ≡ 0) (n v : ℕ) where
-  pub resized-full : length b < n → (record { refused = numberOf Room; moved = 0; state = shut r; handed = none }, b) ≡ told (doRule b r (resize n v))
+  pub resized-full : length b < n
+      → (record { refused = numberOf Room; moved = 0; state = shut r; handed = none }, b)
+      ≡ told (doRule b r (resize n v))
   unfolding resize numberOf
   resized-full lt = own-refused b r (resize n v) 4 (λ e. omega arith) first (no-room _ _ lt)
 
   -- the first n stay
-  pub cut-down : (r′ : Rec) → n ≤ r .len → r′ ≡ stepped r (r .head) n → (record { refused = 0; moved = 0; state = shut r′; handed = none }, b) ≡ told (doRule b r (resize n v))
+  pub cut-down : (r′ : Rec) → n ≤ r .len → r′ ≡ stepped r (r .head) n
+      → (record { refused = 0; moved = 0; state = shut r′; handed = none }, b) ≡ told (doRule b r (resize n v))
   unfolding resize held
   cut-down r′ le made =
       let g = fine-change b r first .good in
@@ -127,11 +147,16 @@ module _ (b : List ℕ) (r : Rec) (first : onChange (length b) r 0 ≡ 0) (n v :
       (sym (rw (none-added, append-nil) (lay-first b (r .head) n (r .len) (g .placed) (g .fits) le)))
 
   -- copies of v are laid behind the last element
-  pub filled-up : (p : ℕ) (r′ : Rec) (b′ : List ℕ) → r .len < n → n ≤ length b → p ≡ place (length b) (r .head) (r .len) → b′ ≡ lay b p (replicate (n - r .len) v)
-      → r′ ≡ stepped r (r .head) n → (record { refused = 0; moved = 0; state = shut r′; handed = none }, b′) ≡ told (doRule b r (resize n v))
+  pub filled-up : (p : ℕ) (r′ : Rec) (b′ : List ℕ) → r .len < n → n ≤ length b → p ≡ place (length b) (r .head) (r .len)
+      → b′ ≡ lay b p (replicate (n - r .len) v)
+      → r′ ≡ stepped r (r .head) n → (record { refused = 0; moved = 0; state = shut r′; handed = none }, b′)
+      ≡ told (doRule b r (resize n v))
   unfolding resize held
   filled-up p r′ b′ lt le at-p laid made =
       let g = fine-change b r first .good in
-      let all : take n (listOf b (r .head) (r .len)) ≡ listOf b (r .head) (r .len) = take-all n _ (rw length-listOf (omega arith)) in
+      let all : take n (listOf b (r .head) (r .len)) ≡ listOf b (r .head) (r .len) =
+      take-all n _ (rw length-listOf (omega arith)) in
       accepts b r (resize n v) first (some-room _ _ le) 0 (r .head) n r′ none b′ made refl refl refl refl
-      (laid ∙ rw (at-p, all, length-listOf) (lay-behind b (r .head) (r .len) (replicate (n - r .len) v) (omega arith) (rw length-replicate (omega arith))))
+      (laid ∙ rw (at-p, all, length-listOf)
+      (lay-behind b (r .head) (r .len) (replicate (n - r .len) v) (omega arith)
+      (rw length-replicate (omega arith))))

@@ -1,4 +1,5 @@
--- The tests of the calls that join, in their order: what each return of them says, and what a call knows past them. Assumes nothing.
+-- The tests of the calls that join, in their order: what each return
+-- of them says, and what a call knows past them. Assumes nothing.
 use mathlib.Core.List.{List}
 use mathlib.Core.Path.{_≡_, sym, _∙_, ap}
 use Prim.Native.Nat.{ℕ, _<_, _≤_, _+_, _-_}
@@ -21,7 +22,8 @@ use Rattle.queue.specs.declared.refusals.Checked.the-variants.{Refused as Faile
 
 module _ (c : ℕ) (r : Rec) where
   -- 1 or 2 of a queue is given, whatever is asked after
-  pub queue-refuses : (k : ℕ) (t : Checked) (x : Refusal) → numberIn t ≡ onChange c r 0 → t ≡ Failed x → numberOf x ≡ onChange c r k
+  pub queue-refuses : (k : ℕ) (t : Checked) (x : Refusal) → numberIn t ≡ onChange c r 0 → t ≡ Failed x
+      → numberOf x ≡ onChange c r k
   queue-refuses k t x asked f = sym (change-stop c r k (numberOf x) (some-number x) (failed-number t x _ asked f))
 
   -- neither is: what is asked after says
@@ -75,11 +77,16 @@ pub record Appends (b : List ℕ) (r : Rec) (b′ : List ℕ) (r′ : Rec) : Typ
   pub theirs : onChange (length b′) r′ 0 ≡ 0
   pub fits : r .len + r′ .len ≤ length b
 
-pub appends : (b : List ℕ) (r : Rec) (b′ : List ℕ) (r′ : Rec) → onAppending (length b) r (length b′) r′ ≡ 0 → Appends b r b′ r′
+pub appends : (b : List ℕ) (r : Rec) (b′ : List ℕ) (r′ : Rec) → onAppending (length b) r (length b′) r′ ≡ 0
+    → Appends b r b′ r′
 unfolding onAppending
 appends b r b′ r′ e =
     let k = change-ok (length b) r _ e .1 in
-    record { ok = fine-change b r (passed-first (length b) r _ e); theirs = passed-first (length b′) r′ _ k; fits = room-ok _ _ (change-ok (length b′) r′ _ k .1) }
+    record {
+      ok = fine-change b r (passed-first (length b) r _ e);
+      theirs = passed-first (length b′) r′ _ k;
+      fits = room-ok _ _ (change-ok (length b′) r′ _ k .1);
+    }
 
 -- of `split_off`
 pub record Splits (b : List ℕ) (r : Rec) (b′ : List ℕ) (p : ℕ) : Type 0 where
@@ -93,4 +100,9 @@ unfolding onSplitting
 splits b r b′ p e =
     let target = slots-ok (length b′) _ (change-ok (length b) r _ e .1) in
     let k = passed (leb p (r .len)) 2 _ (target .1) in
-    record { ours = passed-first (length b) r _ e; few = target .0; within = leb→le p (r .len) (k .0); fits = room-ok _ _ (k .1) }
+    record {
+      ours = passed-first (length b) r _ e;
+      few = target .0;
+      within = leb→le p (r .len) (k .0);
+      fits = room-ok _ _ (k .1);
+    }

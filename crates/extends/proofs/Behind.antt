@@ -11,9 +11,11 @@ use Rattle.rules.specs.Places.{place, stepBack}
 use Rattle.rules.specs.Slots.{lay, listOf, read, write}
 
 -- the first of the elements that stand, laid where they stand
-pub lay-first : (b : List ℕ) (head n m : ℕ) → head ≤ length b - 1 → m ≤ length b → n ≤ m → lay b head (take n (listOf b head m)) ≡ b
+pub lay-first : (b : List ℕ) (head n m : ℕ) → head ≤ length b - 1 → m ≤ length b → n ≤ m
+    → lay b head (take n (listOf b head m)) ≡ b
 lay-first b head zero m good fits le = lay-none b head
-lay-first b head (suc n) m good fits le = ap (lay b head) (listOf-take b head (omega arith) (suc n) m le fits) ∙ lay-own b head (suc n)
+lay-first b head (suc n) m good fits le =
+    ap (lay b head) (listOf-take b head (omega arith) (suc n) m le fits) ∙ lay-own b head (suc n)
 
 module _ (b : List ℕ) (head n : ℕ) (l : List ℕ) (in-ring : head < length b) (fits : n + length l ≤ length b) where
   -- behind
@@ -21,13 +23,16 @@ module _ (b : List ℕ) (head n : ℕ) (l : List ℕ) (in-ring : head < length b
   lay-behind = sym (write-behind (length b) b head n l in-ring (omega arith))
 
   -- in front
-  pub lay-before : lay b (stepBack (length b) head (length l)) l ≡ lay b (stepBack (length b) head (length l)) (l ++ listOf b head n)
+  pub lay-before : lay b (stepBack (length b) head (length l)) l
+      ≡ lay b (stepBack (length b) head (length l)) (l ++ listOf b head n)
   lay-before =
       let cap = length b in
       let g = stepBack cap head (length l) in
       let g-in : g < cap = place-low cap head in-ring (cap - length l) (omega arith) in
-      let on : place cap g (length l) ≡ head = ap (place cap g) (omega arith) ∙ place-back cap head in-ring (cap - length l) (omega arith) in
-      let same : read cap (lay b g l) head n ≡ listOf b head n = rw on at (read-write cap b g l (length l) n g-in (omega arith) (omega arith)) in
+      let on : place cap g (length l) ≡ head =
+      ap (place cap g) (omega arith) ∙ place-back cap head in-ring (cap - length l) (omega arith) in
+      let same : read cap (lay b g l) head n ≡ listOf b head n =
+      rw on at (read-write cap b g l (length l) n g-in (omega arith) (omega arith)) in
       sym
       (write-append cap b g l (listOf b head n) g-in (omega arith)
       ∙ ap (λ (h : ℕ). write cap (lay b g l) h (listOf b head n)) on

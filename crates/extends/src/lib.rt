@@ -12,8 +12,8 @@ ghost use Rattle.rules.specs.Records.{stepped};
 ghost use Rattle.rules.specs.Refusals.{onChange, room};
 ghost use Rattle.queue.specs.Answers.{recOf, numberIn, ofChange};
 
-// The tests of a call that adds `n` elements, in their order. A lent slice may be of any length, so its own is held to a difference: no sum can pass
-// the largest number.
+// The tests of a call that adds `n` elements, in their order. A lent slice may be of
+// any length, so its own is held to a difference: no sum can pass the largest number.
 fn check_more(cap: usize, q: Deque, n: usize) -> Checked
     ensures { λ r. ⌜ numberIn r ≡ onChange cap (recOf q) (room cap (q .len + n)) ⌝ }
 {
@@ -36,7 +36,9 @@ fn stepped_back(cap: usize, q: Deque, n: usize) -> Deque
 
 // Appends the values.
 pub fn extend(slots: &mut [u32], q: Deque, values: &[u32]) -> Change
-    ensures { λ r. ⌜ (ofChange r, now (slots .exit)) ≡ told (doRule (now (slots .entry)) (recOf q) (extendWith (now (values .entry)))) ⌝ }
+    ensures { λ r.
+        ⌜ (ofChange r, now (slots .exit))
+        ≡ told (doRule (now (slots .entry)) (recOf q) (extendWith (now (values .entry)))) ⌝ }
 {
     let cap = slots.len();
     let n = values.len();
@@ -59,7 +61,9 @@ pub fn extend(slots: &mut [u32], q: Deque, values: &[u32]) -> Change
 
 // Puts the values in front, in their order.
 pub fn prepend(slots: &mut [u32], q: Deque, values: &[u32]) -> Change
-    ensures { λ r. ⌜ (ofChange r, now (slots .exit)) ≡ told (doRule (now (slots .entry)) (recOf q) (prepend (now (values .entry)))) ⌝ }
+    ensures { λ r.
+        ⌜ (ofChange r, now (slots .exit))
+        ≡ told (doRule (now (slots .entry)) (recOf q) (prepend (now (values .entry)))) ⌝ }
 {
     let cap = slots.len();
     let n = values.len();
@@ -76,7 +80,9 @@ pub fn prepend(slots: &mut [u32], q: Deque, values: &[u32]) -> Change
 
 // Puts the values in front, the last of them first.
 pub fn extend_front(slots: &mut [u32], q: Deque, values: &[u32]) -> Change
-    ensures { λ r. ⌜ (ofChange r, now (slots .exit)) ≡ told (doRule (now (slots .entry)) (recOf q) (extendFront (now (values .entry)))) ⌝ }
+    ensures { λ r.
+        ⌜ (ofChange r, now (slots .exit))
+        ≡ told (doRule (now (slots .entry)) (recOf q) (extendFront (now (values .entry)))) ⌝ }
 {
     let cap = slots.len();
     let n = values.len();

@@ -24,12 +24,24 @@ module _ (c h s r k t : ℕ) where
   -- the earlier one
   pub earlier-side : (q : ℕ) → s + r < t → q ≡ place c h k → SideMoves c h s r k t h q s q
   unfolding whether
-  earlier-side q lt at = rw at (record { from = rw (lt-ltb (s + r) t lt); to = rw (lt-ltb (s + r) t lt); many = rw (lt-ltb (s + r) t lt); head = rw (lt-ltb (s + r) t lt) })
+  earlier-side q lt at = rw at (record {
+    from = rw (lt-ltb (s + r) t lt);
+    to = rw (lt-ltb (s + r) t lt);
+    many = rw (lt-ltb (s + r) t lt);
+    head = rw (lt-ltb (s + r) t lt);
+  })
 
   -- the tail
-  pub later-side : (p q : ℕ) → t ≤ s + r → p ≡ place c h (s + r + k) → q ≡ place c h (s + r) → SideMoves c h s r k t p q t h
+  pub later-side : (p q : ℕ) → t ≤ s + r → p ≡ place c h (s + r + k) → q ≡ place c h (s + r)
+      → SideMoves c h s r k t p q t h
   unfolding whether
-  later-side p q ge at-p at-q = rw (at-p, at-q) (record { from = rw (le-ltb (s + r) t ge); to = rw (le-ltb (s + r) t ge); many = rw (le-ltb (s + r) t ge); head = rw (le-ltb (s + r) t ge) })
+  later-side p q ge at-p at-q = rw (at-p, at-q)
+      (record {
+        from = rw (le-ltb (s + r) t ge);
+        to = rw (le-ltb (s + r) t ge);
+        many = rw (le-ltb (s + r) t ge);
+        head = rw (le-ltb (s + r) t ge);
+      })
 
 -- ---- one law for each return of `close_hole`
 
@@ -37,15 +49,20 @@ module _ (b : List ℕ) (h s r k t : ℕ) where
   -- nothing moves
   pub no-hole : h ≤ length b - 1 → s + r + k + t ≤ length b → k ≡ 0 → HoleClosed b b h s r k t h 0
   unfolding joinedHead joinedMoved whether
-  no-hole good fits z = rw z (record { head = refl; moved = refl; room = rw zero-add (none-moved b h s r t good (omega arith)) })
+  no-hole good fits z = rw z (record
+      { head = refl; moved = refl; room = rw zero-add (none-moved b h s r t good (omega arith)) })
 
-  module _ (hh : h < length b) (fits : s + r + k + t ≤ length b) (p q m h′ : ℕ) (side : SideMoves (length b) h s r k t p q m h′) where
+  module _ (hh : h < length b) (fits : s + r + k + t ≤ length b) (p q m h′ : ℕ)
+      (side : SideMoves (length b) h s r k t p q m h′) where
     -- the side can be moved by one copy
-    pub side-can-move : length b ≤ mostSlots → ((p < length b) × (q < length b) × (m ≤ length b) × (length b ≤ mostSlots)) × OneOverlap (length b) p q m
+    pub side-can-move : length b ≤ mostSlots
+        → ((p < length b) × (q < length b) × (m ≤ length b) × (length b ≤ mostSlots)) × OneOverlap (length b) p q m
     side-can-move few =
         rw (side .from, side .to, side .many)
-        (by-test₃ (ltb (s + r) t) (λ p q m. ((p < length b) × (q < length b) × (m ≤ length b) × (length b ≤ mostSlots)) × OneOverlap (length b) p q m)
-        (λ lt. can-move (length b) h 0 k s _ _ hh (omega arith) (omega arith) few (sym (place-zero (length b) h hh)) refl)
+        (by-test₃ (ltb (s + r) t) (λ p q m. ((p < length b) × (q < length b) × (m ≤ length b) × (length b ≤ mostSlots))
+        × OneOverlap (length b) p q m)
+        (λ lt. can-move (length b) h 0 k s _ _ hh (omega arith) (omega arith) few (sym (place-zero (length b) h hh))
+        refl)
         (λ ge. can-move (length b) h (s + r + k) (s + r) t _ _ hh (omega arith) (omega arith) few refl refl))
 
     -- once it is moved, the hole is closed
@@ -58,7 +75,8 @@ module _ (b : List ℕ) (h s r k t : ℕ) where
         rw (side .from, side .to, side .many, side .head)
         (by-test₄ (ltb (s + r) t) (λ p q m h′. RoomMade b (copied b p q m) h h′ s (k + r) r t)
         (λ lt. head-moved b h s (k + r) t hh (omega arith) r k refl)
-        (λ ge. let at : s + r + k ≡ s + (k + r) = omega arith in rw at (tail-moved b h s (k + r) t hh (omega arith) r (omega arith)))) in
+        (λ ge. let at : s + r + k ≡ s + (k + r) = omega arith in rw at
+        (tail-moved b h s (k + r) t hh (omega arith) r (omega arith)))) in
         rw moved (record { head = head-at; moved = moved-at; room = room-at })
 
 -- ---- where nothing remains

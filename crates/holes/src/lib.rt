@@ -16,8 +16,12 @@ pub struct Settled {
 
 // Moves `n` elements of a queue from position `from` to position `to`.
 pub fn move_elements(slots: &mut [u32], head: WrappedIndex, from: usize, to: usize, n: usize)
-    requires { ⌜ (head .0 < length (now slots)) × (from + n ≤ length (now slots)) × (to + n ≤ length (now slots)) × (length (now slots) ≤ mostSlots) ⌝ }
-    ensures { λ _. ⌜ now (slots .exit) ≡ copied (now (slots .entry)) (place (length (now (slots .entry))) (head .0) from) (place (length (now (slots .entry))) (head .0) to) n ⌝ }
+    requires { ⌜ (head .0 < length (now slots)) × (from + n ≤ length (now slots)) × (to + n ≤ length (now slots))
+        × (length (now slots) ≤ mostSlots) ⌝ }
+    ensures { λ _.
+        ⌜ now (slots .exit)
+        ≡ copied (now (slots .entry)) (place (length (now (slots .entry))) (head .0) from)
+        (place (length (now (slots .entry))) (head .0) to) n ⌝ }
 {
     let cap = slots.len();
     let src = places::wrap_add(cap, head, from);
@@ -25,7 +29,8 @@ pub fn move_elements(slots: &mut [u32], head: WrappedIndex, from: usize, to: usi
     copies::wrap_copy(slots, src, dst, n);
 }
 
-// The side of a hole that moves: `n` elements, which stand from `src` on and go to `dst`; then the queue begins at `head`.
+// The side of a hole that moves: `n` elements, which stand from
+// `src` on and go to `dst`; then the queue begins at `head`.
 struct Side {
     src: WrappedIndex,
     dst: WrappedIndex,
@@ -75,8 +80,9 @@ fn shorter_side(
     }
 }
 
-// Closes a hole. In front of it stand `start` elements, and room for `new` ones, which the caller lays once the hole is closed; behind it stand
-// `tail`. Since the new ones go straight to their place, only `start` elements move where the earlier side does.
+// Closes a hole. In front of it stand `start` elements, and room for `new` ones, which
+// the caller lays once the hole is closed; behind it stand `tail`. Since the new ones
+// go straight to their place, only `start` elements move where the earlier side does.
 pub fn close_hole(
     slots: &mut [u32],
     head: WrappedIndex,
@@ -85,8 +91,10 @@ pub fn close_hole(
     hole: usize,
     tail: usize,
 ) -> Settled
-    requires { ⌜ (head .0 ≤ length (now slots) - 1) × (start + new + hole + tail ≤ length (now slots)) × (length (now slots) ≤ mostSlots) ⌝ }
-    ensures { λ r. ⌜ HoleClosed (now (slots .entry)) (now (slots .exit)) (head .0) start new hole tail (r .head .0) (r .moved) ⌝ }
+    requires { ⌜ (head .0 ≤ length (now slots) - 1) × (start + new + hole + tail ≤ length (now slots))
+        × (length (now slots) ≤ mostSlots) ⌝ }
+    ensures { λ r.
+        ⌜ HoleClosed (now (slots .entry)) (now (slots .exit)) (head .0) start new hole tail (r .head .0) (r .moved) ⌝ }
 {
     if hole == 0 {
         return Settled { head, moved: 0 };

@@ -58,7 +58,8 @@ unfolding fours
 fours-last zero s = refl
 fours-last (suc n) s =
     ap (λ (l : List ℕ). bigEndian 0 (take 4 s) ∷ l)
-    (fours-last n (drop 4 s) ∙ ap (λ (x : List ℕ). fours n (drop 4 s) ++ bigEndian 0 (take 4 x) ∷ []) (drop-drop (4 * n) 4 s ∙ (λ i. drop (next i) s)))
+    (fours-last n (drop 4 s) ∙ ap (λ (x : List ℕ). fours n (drop 4 s) ++ bigEndian 0 (take 4 x) ∷ [])
+    (drop-drop (4 * n) 4 s ∙ (λ i. drop (next i) s)))
   where
     next : 4 + 4 * n ≡ 4 * suc n
     next = omega arith
@@ -67,7 +68,8 @@ pub take-none : (b s : List ℕ) → b ≡ sets b 0 (fours 0 (drop 3 s))
 unfolding fours
 take-none b s = refl
 
-pub take-more : (b s b1 : List ℕ) (i v : ℕ) → b1 ≡ sets b 0 (fours i (drop 3 s)) → v ≡ bigEndian 0 (take 4 (drop (3 + 4 * i) s))
+pub take-more : (b s b1 : List ℕ) (i v : ℕ) → b1 ≡ sets b 0 (fours i (drop 3 s))
+    → v ≡ bigEndian 0 (take 4 (drop (3 + 4 * i) s))
     → set b1 i v ≡ sets b 0 (fours (i + 1) (drop 3 s))
 take-more b s b1 i v before now =
     let l = fours i (drop 3 s) in
@@ -77,38 +79,50 @@ take-more b s b1 i v before now =
     ∙ ap (sets b 0) (sym (fours-last i (drop 3 s)))
     ∙ ap (λ (n : ℕ). sets b 0 (fours n (drop 3 s))) (sym (add-one i))
 
-pub take-all : (b s b1 : List ℕ) (n : ℕ) → n ≤ length b → b1 ≡ sets b 0 (fours n (drop 3 s)) → b1 ≡ lay b 0 (fours n (drop 3 s))
-take-all b s b1 n fits e = e ∙ sym (write-straight (length b) b 0 (fours n (drop 3 s)) (omega (arith, length-fours n (drop 3 s))))
+pub take-all : (b s b1 : List ℕ) (n : ℕ) → n ≤ length b → b1 ≡ sets b 0 (fours n (drop 3 s))
+    → b1 ≡ lay b 0 (fours n (drop 3 s))
+take-all b s b1 n fits e = e ∙ sym
+    (write-straight (length b) b 0 (fours n (drop 3 s)) (omega (arith, length-fours n (drop 3 s))))
 
 -- ---- the returns of `read_image`
 
 -- bytes that keep the layout are as many as their elements want
 pub laid-size : (s : List ℕ) → laidOut s ≡ true → length s ≡ 3 + 4 * ((length s - 3) / 4)
 unfolding laidOut howMany
-laid-size s e = omega (arith, eqb-true (length s) (2 + (1 + 4 * ((length s - 3) / 4))) (and-eq-true-iff (eqb (length s) (2 + (1 + 4 * ((length s - 3) / 4)))) _ .0 e .0))
+laid-size s e = omega (
+  arith,
+  eqb-true (length s) (2 + (1 + 4 * ((length s - 3) / 4)))
+      (and-eq-true-iff (eqb (length s) (2 + (1 + 4 * ((length s - 3) / 4)))) _ .0 e .0),
+)
 
 module _ (b s : List ℕ) where
-  stopped : (n : ℕ) → n ≢ 0 → onSlots (length b) (onLayout (laidOut s) (room (length b) (howMany s))) ≡ n → (record { refused = n; moved = 0; made = none }, b) ≡ toldMake (readImage b s)
+  stopped : (n : ℕ) → n ≢ 0 → onSlots (length b) (onLayout (laidOut s) (room (length b) (howMany s))) ≡ n
+      → (record { refused = n; moved = 0; made = none }, b) ≡ toldMake (readImage b s)
   unfolding readImage noneMade
   stopped n ne e = rw (e, unless-stop n _ _ ne)
 
-  pub reads-slots : mostSlots < length b → (record { refused = numberOf Slots; moved = 0; made = none }, b) ≡ toldMake (readImage b s)
+  pub reads-slots : mostSlots < length b
+      → (record { refused = numberOf Slots; moved = 0; made = none }, b) ≡ toldMake (readImage b s)
   unfolding onSlots ask numberOf
   reads-slots lt = stopped 1 (λ e. omega arith) (rw (lt-leb (length b) mostSlots lt))
 
   module _ (few : length b ≤ mostSlots) where
-    pub reads-broken : laidOut s ≡ false → (record { refused = numberOf Image; moved = 0; made = none }, b) ≡ toldMake (readImage b s)
+    pub reads-broken : laidOut s ≡ false
+        → (record { refused = numberOf Image; moved = 0; made = none }, b) ≡ toldMake (readImage b s)
     unfolding onLayout ask numberOf
     reads-broken e = stopped 5 (λ z. omega arith) (slots-asks (length b) _ few ∙ rw e)
 
     module _ (laid : laidOut s ≡ true) where
-      pub reads-full : length b < (length s - 3) / 4 → (record { refused = numberOf Room; moved = 0; made = none }, b) ≡ toldMake (readImage b s)
+      pub reads-full : length b < (length s - 3) / 4
+          → (record { refused = numberOf Room; moved = 0; made = none }, b) ≡ toldMake (readImage b s)
       unfolding onLayout ask numberOf howMany
       reads-full lt = stopped 4 (λ z. omega arith) (slots-asks (length b) _ few ∙ rw laid (no-room (length b) _ lt))
 
-      pub reads : (b′ : List ℕ) (r : Rec) → (length s - 3) / 4 ≤ length b → b′ ≡ lay b 0 (fours ((length s - 3) / 4) (drop 3 s)) → r ≡ newRec ((length s - 3) / 4)
+      pub reads : (b′ : List ℕ) (r : Rec) → (length s - 3) / 4 ≤ length b
+          → b′ ≡ lay b 0 (fours ((length s - 3) / 4) (drop 3 s)) → r ≡ newRec ((length s - 3) / 4)
           → (record { refused = 0; moved = 0; made = some r }, b′) ≡ toldMake (readImage b s)
       unfolding readImage onLayout ask unless madeWith elementsIn howMany
       reads b′ r fits at-slots made =
-          let none-refused : onSlots (length b) (onLayout (laidOut s) (room (length b) (howMany s))) ≡ 0 = slots-asks (length b) _ few ∙ rw laid (some-room (length b) _ fits) in
+          let none-refused : onSlots (length b) (onLayout (laidOut s) (room (length b) (howMany s))) ≡ 0 =
+          slots-asks (length b) _ few ∙ rw laid (some-room (length b) _ fits) in
           rw (none-refused, length-elements s, made, at-slots)

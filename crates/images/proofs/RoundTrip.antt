@@ -1,4 +1,5 @@
--- An image and its list are one for one: what was written is read back, and every other byte string is refused with 5. Assumes nothing.
+-- An image and its list are one for one: what was written is read back,
+-- and every other byte string is refused with 5. Assumes nothing.
 use mathlib.Core.Bool.{true, and-eq-true-iff, Bool, false}
 use mathlib.Core.List.{List, _∷_, [], _++_}
 use mathlib.Core.Path.{_≡_, _∙_, refl, ap, sym}
@@ -60,7 +61,8 @@ two-of a b la lb =
     let e2 : n % 256 ≡ b = omega arith in
     λ i. e1 i ∷ e2 i ∷ []
 
-four-of : (a b c d : ℕ) → a < 256 → b < 256 → c < 256 → d < 256 → fourBytes (bigEndian 0 (a ∷ b ∷ c ∷ d ∷ [])) ≡ a ∷ b ∷ c ∷ d ∷ []
+four-of : (a b c d : ℕ) → a < 256 → b < 256 → c < 256 → d < 256
+    → fourBytes (bigEndian 0 (a ∷ b ∷ c ∷ d ∷ [])) ≡ a ∷ b ∷ c ∷ d ∷ []
 unfolding bigEndian fourBytes
 four-of a b c d la lb lc ld =
     let n = (((0 * 256 + a) * 256 + b) * 256 + c) * 256 + d in
@@ -97,7 +99,8 @@ pub image-laid-out : (l : List ℕ) → length l ≤ mostShort → laidOut (imag
 unfolding laidOut
 image-laid-out l few =
     let size : length (imageOf l) ≡ 2 + bytesAfter (length l) = omega (arith, length-image l) in
-    let count : bigEndian 0 (take 2 (imageOf l)) ≡ bytesAfter (length l) = ap (bigEndian 0) (front-image l) ∙ two-back (bytesAfter (length l)) (omega arith) in
+    let count : bigEndian 0 (take 2 (imageOf l)) ≡ bytesAfter (length l) =
+    ap (bigEndian 0) (front-image l) ∙ two-back (bytesAfter (length l)) (omega arith) in
     rw (many-image l, eq-eqb _ _ size, eq-eqb _ _ count, version-image l, le-leb (length l) mostShort few)
 
 -- the elements of an image are the list
@@ -111,7 +114,8 @@ fours-all (v ∷ l) u =
 
 pub image-elements : (l : List ℕ) → EachBelow elementLimit l → elementsIn (imageOf l) ≡ l
 unfolding elementsIn
-image-elements l u = ap (λ (n : ℕ). fours n (drop 3 (imageOf l))) (many-image l) ∙ ap (fours (length l)) (behind-image l) ∙ fours-all l u
+image-elements l u = ap (λ (n : ℕ). fours n (drop 3 (imageOf l))) (many-image l)
+    ∙ ap (fours (length l)) (behind-image l) ∙ fours-all l u
 
 -- ---- what is accepted is the image of its list
 
@@ -124,8 +128,10 @@ all-fours (suc n) (a ∷ []) e u = absurd (omega arith)
 all-fours (suc n) (a ∷ (b ∷ [])) e u = absurd (omega arith)
 all-fours (suc n) (a ∷ (b ∷ (c ∷ []))) e u = absurd (omega arith)
 all-fours (suc n) (a ∷ (b ∷ (c ∷ (d ∷ s)))) e u =
-    let word : fourBytes (bigEndian 0 (a ∷ b ∷ c ∷ d ∷ [])) ≡ a ∷ b ∷ c ∷ d ∷ [] = four-of a b c d (u 0 (omega arith)) (u 1 (omega arith)) (u 2 (omega arith)) (u 3 (omega arith)) in
-    let rest : allBytes (fours n s) ≡ s = all-fours n s (omega arith) (λ i lt. u (suc (suc (suc (suc i)))) (omega arith)) in
+    let word : fourBytes (bigEndian 0 (a ∷ b ∷ c ∷ d ∷ [])) ≡ a ∷ b ∷ c ∷ d ∷ [] =
+    four-of a b c d (u 0 (omega arith)) (u 1 (omega arith)) (u 2 (omega arith)) (u 3 (omega arith)) in
+    let rest : allBytes (fours n s) ≡ s =
+    all-fours n s (omega arith) (λ i lt. u (suc (suc (suc (suc i)))) (omega arith)) in
     λ i. word i ++ rest i
 
 fours-below : (n : ℕ) (s : List ℕ) → length s ≡ 4 * n → EachBelow byteLimit s → EachBelow elementLimit (fours n s)
@@ -135,8 +141,10 @@ fours-below (suc n) [] e u i lt = absurd (omega arith)
 fours-below (suc n) (a ∷ []) e u i lt = absurd (omega arith)
 fours-below (suc n) (a ∷ (b ∷ [])) e u i lt = absurd (omega arith)
 fours-below (suc n) (a ∷ (b ∷ (c ∷ []))) e u i lt = absurd (omega arith)
-fours-below (suc n) (a ∷ (b ∷ (c ∷ (d ∷ s)))) e u zero lt = four-below a b c d (u 0 (omega arith)) (u 1 (omega arith)) (u 2 (omega arith)) (u 3 (omega arith))
-fours-below (suc n) (a ∷ (b ∷ (c ∷ (d ∷ s)))) e u (suc i) lt = fours-below n s (omega arith) (λ j k. u (suc (suc (suc (suc j)))) (omega arith)) i (omega arith)
+fours-below (suc n) (a ∷ (b ∷ (c ∷ (d ∷ s)))) e u zero lt =
+    four-below a b c d (u 0 (omega arith)) (u 1 (omega arith)) (u 2 (omega arith)) (u 3 (omega arith))
+fours-below (suc n) (a ∷ (b ∷ (c ∷ (d ∷ s)))) e u (suc i) lt =
+    fours-below n s (omega arith) (λ j k. u (suc (suc (suc (suc j)))) (omega arith)) i (omega arith)
 
 -- what the layout says, part by part
 record Laid (s : List ℕ) : Type 0 where
@@ -152,11 +160,17 @@ laid s e =
     let q = and-eq-true-iff (eqb (bigEndian 0 (take 2 s)) (bytesAfter (howMany s))) _ .0 (p .1) in
     let r = and-eq-true-iff (eqb (getD s 2 0) version) _ .0 (q .1) in
     let all = eqb-true (length s) (2 + bytesAfter (howMany s)) (p .0) in
-    record { size = omega arith; count = eqb-true _ _ (q .0); versioned = eqb-true _ _ (r .0); few = leb-true _ _ (r .1) }
+    record {
+      size = omega arith;
+      count = eqb-true _ _ (q .0);
+      versioned = eqb-true _ _ (r .0);
+      few = leb-true _ _ (r .1);
+    }
 
 elements-below : (s : List ℕ) → EachBelow byteLimit s → Laid s → EachBelow elementLimit (elementsIn s)
 unfolding elementsIn
-elements-below s u k = fours-below (howMany s) (drop 3 s) (omega (arith, k .size, length-drop 3 s)) (λ i lt. rw (getD-drop 3 s i 0) (u (3 + i) (omega (arith, length-drop 3 s))))
+elements-below s u k = fours-below (howMany s) (drop 3 s) (omega (arith, k .size, length-drop 3 s))
+    (λ i lt. rw (getD-drop 3 s i 0) (u (3 + i) (omega (arith, length-drop 3 s))))
 
 whole : (s : List ℕ) → EachBelow byteLimit s → Laid s → imageOf (elementsIn s) ≡ s
 unfolding imageOf elementsIn
@@ -168,8 +182,10 @@ whole (a ∷ (b ∷ (v ∷ s))) u k =
     let n = howMany t in
     let many : length (fours n s) ≡ n = length-fours n s in
     let count : bytesAfter (length (fours n s)) ≡ bigEndian 0 (a ∷ b ∷ []) = ap bytesAfter many ∙ sym (k .count) in
-    let two : twoBytes (bytesAfter (length (fours n s))) ≡ a ∷ b ∷ [] = ap twoBytes count ∙ two-of a b (u 0 (omega arith)) (u 1 (omega arith)) in
-    let rest : allBytes (fours n s) ≡ s = all-fours n s (omega (arith, k .size)) (λ i lt. u (suc (suc (suc i))) (omega arith)) in
+    let two : twoBytes (bytesAfter (length (fours n s))) ≡ a ∷ b ∷ [] =
+    ap twoBytes count ∙ two-of a b (u 0 (omega arith)) (u 1 (omega arith)) in
+    let rest : allBytes (fours n s) ≡ s =
+    all-fours n s (omega (arith, k .size)) (λ i lt. u (suc (suc (suc i))) (omega arith)) in
     λ i. two i ++ sym (k .versioned) i ∷ rest i
 
 -- bytes that keep the layout are the image of their elements, byte for byte
@@ -179,20 +195,24 @@ accepted-image s u e = whole s u (laid s e)
 -- ---- in `read_image`'s words
 
 -- the image of a list is read as that list
-pub image-read : (b l : List ℕ) → length b ≤ mostSlots → length l ≤ length b → EachBelow elementLimit l → readImage b (imageOf l) ≡ madeWith b l
+pub image-read : (b l : List ℕ) → length b ≤ mostSlots → length l ≤ length b → EachBelow elementLimit l
+    → readImage b (imageOf l) ≡ madeWith b l
 unfolding readImage onLayout ask unless
 image-read b l few fits u =
     let none : onSlots (length b) (onLayout (laidOut (imageOf l)) (room (length b) (howMany (imageOf l)))) ≡ 0 =
-    slots-asks (length b) _ few ∙ rw (image-laid-out l (omega arith), many-image l) (some-room (length b) (length l) fits) in
+    slots-asks (length b) _ few ∙ rw (image-laid-out l (omega arith), many-image l)
+    (some-room (length b) (length l) fits) in
     rw (none, image-elements l u)
 
 -- bytes that are no list's image are refused with 5
 pub others-refused : (b s : List ℕ) → length b ≤ mostSlots → EachBelow byteLimit s
-    → ((l : List ℕ) → length l ≤ mostShort → EachBelow elementLimit l → imageOf l ≡ s → ⊥) → readImage b s ≡ noneMade b 5
+    → ((l : List ℕ) → length l ≤ mostShort → EachBelow elementLimit l → imageOf l ≡ s → ⊥)
+    → readImage b s ≡ noneMade b 5
 unfolding readImage onLayout ask unless
 others-refused b s few u no-image =
     rw (slots-asks (length b) (onLayout (laidOut s) (room (length b) (howMany s))) few, broken (laidOut s) refl)
   where
     broken : (t : Bool) → laidOut s ≡ t → laidOut s ≡ false
     broken false e = e
-    broken true e = absurd (no-image (elementsIn s) (omega (arith, length-elements s, laid s e .few)) (elements-below s u (laid s e)) (accepted-image s u e))
+    broken true e = absurd (no-image (elementsIn s) (omega (arith, length-elements s, laid s e .few))
+        (elements-below s u (laid s e)) (accepted-image s u e))

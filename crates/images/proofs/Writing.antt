@@ -31,15 +31,18 @@ pub put-none : (t b : List ℕ) (h : ℕ) → t ≡ sets t 3 (allBytes (listOf b
 unfolding read allBytes
 put-none t b h = refl
 
-pub put-more : (t b t1 t2 : List ℕ) (h i p : ℕ) → h < length b → i ≤ length b → p ≡ place (length b) h i → t1 ≡ sets t 3 (allBytes (listOf b h i))
+pub put-more : (t b t1 t2 : List ℕ) (h i p : ℕ) → h < length b → i ≤ length b → p ≡ place (length b) h i
+    → t1 ≡ sets t 3 (allBytes (listOf b h i))
     → t2 ≡ sets t1 (3 + 4 * i) (fourBytes (getD b p 0)) → t2 ≡ sets t 3 (allBytes (listOf b h (i + 1)))
 unfolding allBytes fourBytes
 put-more t b t1 t2 h i p in-ring fits at-p before now =
     let l = listOf b h i in
-    let last : listOf b h (i + 1) ≡ l ++ getD b p 0 ∷ [] = read-add (length b) b h i 1 in-ring fits ∙ rw (read-one, at-p) in
+    let last : listOf b h (i + 1) ≡ l ++ getD b p 0 ∷ [] =
+    read-add (length b) b h i 1 in-ring fits ∙ rw (read-one, at-p) in
     now
     ∙ ap (λ (x : List ℕ). sets x (3 + 4 * i) (fourBytes (getD b p 0))) before
-    ∙ sets-append t 3 (3 + 4 * i) (allBytes l) (fourBytes (getD b p 0)) (omega (arith, length-all l, length-listOf b h i))
+    ∙ sets-append t 3 (3 + 4 * i) (allBytes l) (fourBytes (getD b p 0))
+    (omega (arith, length-all l, length-listOf b h i))
     ∙ ap (sets t 3) (sym (ap allBytes last ∙ all-append l (getD b p 0 ∷ [])))
 
 -- ---- the returns of `write_image`
@@ -66,7 +69,11 @@ module _ (b : List ℕ) (r : Rec) (t : List ℕ) where
   -- refused: no byte is written
   stopped : (n : ℕ) → n ≢ 0 → onWriting (length b) r (length t) ≡ n → (refuses n, t) ≡ toldWriting b r t
   unfolding writeCount written looked
-  stopped n ne e = rw (e, unless-stop n (sees (2 + bytesAfter (r .len))) (refuses n) ne, unless-stop n (imageOf (held b r) ++ drop (2 + bytesAfter (r .len)) t) t ne)
+  stopped n ne e = rw (
+    e,
+    unless-stop n (sees (2 + bytesAfter (r .len))) (refuses n) ne,
+    unless-stop n (imageOf (held b r) ++ drop (2 + bytesAfter (r .len)) t) t ne,
+  )
 
   -- by the tests of slots and record
   pub writes-first : (x : Refusal) → onQueue (length b) r 0 ≡ numberOf x → (refuses (numberOf x), t) ≡ toldWriting b r t
@@ -79,12 +86,16 @@ module _ (b : List ℕ) (r : Rec) (t : List ℕ) where
     writes-full lt = stopped 4 (λ e. omega arith) (queue-go (length b) r _ first ∙ no-room (length t) _ (omega arith))
 
     -- the first three bytes are put, then the elements
-    pub writes : (t1 t2 : List ℕ) → 3 + 4 * r .len ≤ length t → t1 ≡ sets t 0 (twoBytes (1 + 4 * r .len) ++ version ∷ [])
+    pub writes : (t1 t2 : List ℕ) → 3 + 4 * r .len ≤ length t
+        → t1 ≡ sets t 0 (twoBytes (1 + 4 * r .len) ++ version ∷ [])
         → t2 ≡ sets t1 3 (allBytes (listOf b (r .head) (r .len))) → (sees (3 + 4 * r .len), t2) ≡ toldWriting b r t
     unfolding onWriting writeCount written looked unless held
     writes t1 t2 fits at-head at-rest =
         let l = held b r in
-        let none-refused : onWriting (length b) r (length t) ≡ 0 = queue-go (length b) r _ first ∙ some-room (length t) _ (omega arith) in
+        let none-refused : onWriting (length b) r (length t) ≡ 0 =
+        queue-go (length b) r _ first ∙ some-room (length t) _ (omega arith) in
         let count : 3 + 4 * r .len ≡ 2 + bytesAfter (r .len) = omega arith in
-        let all : t2 ≡ imageOf l ++ drop (2 + bytesAfter (r .len)) t = at-rest ∙ ap (λ (x : List ℕ). sets x 3 (allBytes l)) at-head ∙ together t l (r .len) (length-held b r) fits in
+        let all : t2 ≡ imageOf l ++ drop (2 + bytesAfter (r .len)) t =
+        at-rest ∙ ap (λ (x : List ℕ). sets x 3 (allBytes l)) at-head
+        ∙ together t l (r .len) (length-held b r) fits in
         rw none-refused (λ i. (sees (count i), all i))

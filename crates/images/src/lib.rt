@@ -68,8 +68,10 @@ fn put_four(target: &mut [u8], at: usize, v: u32)
 
 // Puts the `len` elements from `head` on behind the first three bytes.
 fn put_elements(slots: &[u32], head: WrappedIndex, len: usize, target: &mut [u8])
-    requires { ⌜ (head .0 ≤ length (now slots) - 1) × (len ≤ length (now slots)) × (3 + 4 * len ≤ length (now target)) ⌝ }
-    ensures { λ _. ⌜ now (target .exit) ≡ sets (now (target .entry)) 3 (allBytes (listOf (now (slots .entry)) (head .0) len)) ⌝ }
+    requires { ⌜ (head .0 ≤ length (now slots) - 1) × (len ≤ length (now slots))
+        × (3 + 4 * len ≤ length (now target)) ⌝ }
+    ensures { λ _.
+        ⌜ now (target .exit) ≡ sets (now (target .entry)) 3 (allBytes (listOf (now (slots .entry)) (head .0) len)) ⌝ }
 {
     let cap = slots.len();
     let mut i: usize = 0;
@@ -83,7 +85,8 @@ fn put_elements(slots: &[u32], head: WrappedIndex, len: usize, target: &mut [u8]
 
 // Writes the image of a queue into the first bytes of `target`, and keeps the later ones.
 pub fn write_image(slots: &[u32], q: Deque, target: &mut [u8]) -> Written
-    ensures { λ r. ⌜ (ofWritten r, now (target .exit)) ≡ toldWriting (now (slots .entry)) (recOf q) (now (target .entry)) ⌝ }
+    ensures { λ r.
+        ⌜ (ofWritten r, now (target .exit)) ≡ toldWriting (now (slots .entry)) (recOf q) (now (target .entry)) ⌝ }
 {
     let cap = slots.len();
     if let Checked::Refused(refusal) = queue::check(cap, q) {

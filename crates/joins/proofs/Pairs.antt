@@ -1,4 +1,5 @@
--- What the calls on two queues do: one law for each return. b, r: our slots and record; b′, r′: the other's. Assumes nothing.
+-- What the calls on two queues do: one law for each return. b,
+-- r: our slots and record; b′, r′: the other's. Assumes nothing.
 use mathlib.Core.List.{List}
 use mathlib.Core.Option.{none, some}
 use mathlib.Core.Path.{_≡_, _∙_, ap}
@@ -72,5 +73,6 @@ module _ (b : List ℕ) (r : Rec) (b′ : List ℕ) (s : ℕ) where
       let g = k .0 in
       let first : min s (r .len) ≡ s = omega (arith, k .1) in
       let same : lay b (r .head) (take s (listOf b (r .head) (r .len))) ≡ b =
-      ap (lay b (r .head)) (listOf-take-good b (r .head) (g .placed) s (r .len) (k .1) (g .fits)) ∙ lay-own b (r .head) s in
+      ap (lay b (r .head)) (listOf-take-good b (r .head) (g .placed) s (r .len) (k .1) (g .fits))
+      ∙ lay-own b (r .head) s in
       rw (none-asked, same, first, length-drop, length-listOf, laid, at-first, all, made, made-other)

@@ -26,7 +26,8 @@ fn check_append(cap: usize, q: Deque, other_cap: usize, other: Deque) -> Checked
     Checked::Good
 }
 
-// The tests of `split_off`, in their order: our queue's, the bare target's slots, the position, then whether the later elements fit.
+// The tests of `split_off`, in their order: our queue's, the bare
+// target's slots, the position, then whether the later elements fit.
 fn check_split(cap: usize, q: Deque, target_cap: usize, at: usize) -> Checked
     ensures { λ r. ⌜ numberIn r ≡ onSplitting cap (recOf q) «target_cap» at ⌝ }
 {
@@ -73,7 +74,8 @@ pub fn append(slots: &mut [u32], q: Deque, other_slots: &[u32], other: Deque) ->
     }
 }
 
-// Fills a bare target from its first slot on with the elements from position `at` on, which leaves the first `at` in ours.
+// Fills a bare target from its first slot on with the elements
+// from position `at` on, which leaves the first `at` in ours.
 pub fn split_off(slots: &[u32], q: Deque, at: usize, target: &mut [u32]) -> Split
     ensures { λ r. ⌜ (ofSplit r, now (slots .entry), now (target .exit))
         ≡ toldPair (doSplit (now (slots .entry)) (recOf q) (now (target .entry)) at) ⌝ }

@@ -1,4 +1,5 @@
--- The layout of a record: its length, its operation and operands, and one law for each return of `record_at`. Assumes nothing.
+-- The layout of a record: its length, its operation and operands,
+-- and one law for each return of `record_at`. Assumes nothing.
 use mathlib.Core.Bool.{Bool, true, false, _||_}
 use mathlib.Core.List.{List}
 use mathlib.Core.Logic.{_≢_}
@@ -18,7 +19,8 @@ use Rattle.rules.specs.Choices.{whether}
 -- what holds of a number and of the next holds of whichever it is
 pub either-of : (o a : ℕ) (P : ℕ → Type 0) → P a → P (suc a) → a ≤ o → o < suc (suc a) → P o
 either-of o a P first second low high =
-    cases (eqb o a) (λ t. subst P (sym (eqb→eq o a t)) first) (λ t. let ne = neqb→ne o a t in subst P (next o a ne low high) second)
+    cases (eqb o a) (λ t. subst P (sym (eqb→eq o a t)) first)
+    (λ t. let ne = neqb→ne o a t in subst P (next o a ne low high) second)
   where
     next : (o a : ℕ) → o ≢ a → a ≤ o → o < suc (suc a) → suc a ≡ o
     next o a ne low high = omega arith
@@ -27,7 +29,17 @@ pub unknown : (o : ℕ) → ((k : ℕ) → 1 ≤ k → k ≤ 9 → o ≢ k) → 
 unfolding lengthOf whether
 unknown o other =
     let ne : (k : ℕ) → 1 ≤ k → k ≤ 9 → eqb o k ≡ false = λ k low high. ne-eqb o k (other k low high) in
-    rw (ne 3 (omega arith) (omega arith), ne 4 (omega arith) (omega arith), ne 1 (omega arith) (omega arith), ne 2 (omega arith) (omega arith), ne 6 (omega arith) (omega arith), ne 7 (omega arith) (omega arith), ne 9 (omega arith) (omega arith), ne 5 (omega arith) (omega arith), ne 8 (omega arith) (omega arith))
+    rw (
+      ne 3 (omega arith) (omega arith),
+      ne 4 (omega arith) (omega arith),
+      ne 1 (omega arith) (omega arith),
+      ne 2 (omega arith) (omega arith),
+      ne 6 (omega arith) (omega arith),
+      ne 7 (omega arith) (omega arith),
+      ne 9 (omega arith) (omega arith),
+      ne 5 (omega arith) (omega arith),
+      ne 8 (omega arith) (omega arith),
+    )
 
 -- which length the tests give
 first-test : (s t u : Bool) → _≡_ {A = ℕ} (whether s 2 (whether t 6 (whether u 10 0))) 2 → s ≡ true
@@ -61,14 +73,26 @@ other-none o e ne = or-second o 3 4 (first-test (eqb o 3 || eqb o 4) _ _ e) ne
 -- with two: 5 or 8
 pub other-two : (o : ℕ) → lengthOf o ≡ 10 → o ≢ 5 → o ≡ 8
 unfolding lengthOf
-other-two o e ne = or-second o 5 8 (last-test (eqb o 3 || eqb o 4) (eqb o 1 || (eqb o 2 || (eqb o 6 || (eqb o 7 || eqb o 9)))) (eqb o 5 || eqb o 8) e) ne
+other-two o e ne = or-second o 5 8
+    (last-test (eqb o 3 || eqb o 4) (eqb o 1 || (eqb o 2 || (eqb o 6 || (eqb o 7 || eqb o 9)))) (eqb o 5 || eqb o 8) e)
+    ne
 
 -- with one, and none of the first four: the last
 pub other-one : (o x y : ℕ) → lengthOf o ≡ 6 → o ≢ 1 → o ≢ 2 → o ≢ 6 → o ≢ 7 → doRemove x ≡ entryOf o x y
 unfolding entryOf lengthOf whether
 other-one o x y e n1 n2 n6 n7 =
-    let six : (k n : ℕ) → lengthOf k ≡ n → n ≢ 6 → eqb o k ≡ false = λ k n at-k ne. ne-eqb o k (λ f. ne (sym at-k ∙ ap lengthOf (sym f) ∙ e)) in
-    rw (ne-eqb o 1 n1, ne-eqb o 2 n2, six 3 2 refl (λ z. omega arith), six 4 2 refl (λ z. omega arith), six 5 10 refl (λ z. omega arith), ne-eqb o 6 n6, ne-eqb o 7 n7, six 8 10 refl (λ z. omega arith))
+    let six : (k n : ℕ) → lengthOf k ≡ n → n ≢ 6 → eqb o k ≡ false =
+    λ k n at-k ne. ne-eqb o k (λ f. ne (sym at-k ∙ ap lengthOf (sym f) ∙ e)) in
+    rw (
+      ne-eqb o 1 n1,
+      ne-eqb o 2 n2,
+      six 3 2 refl (λ z. omega arith),
+      six 4 2 refl (λ z. omega arith),
+      six 5 10 refl (λ z. omega arith),
+      ne-eqb o 6 n6,
+      ne-eqb o 7 n7,
+      six 8 10 refl (λ z. omega arith),
+    )
 
 -- a length that some operation has, and neither of the shorter two
 pub the-longest : (n : ℕ) → someLength n ≡ true → n ≢ 2 → n ≢ 6 → n ≡ 10
@@ -82,7 +106,8 @@ only-ten n n2 n6 = rw (ne-eqb n 2 n2, ne-eqb n 6 n6)
 pub short-length : (n : ℕ) → someLength n ≡ true → n ≤ 10
 short-length n e =
     cases (eqb n 2) (λ t. omega (arith, eqb→eq n 2 t))
-    (λ t. cases (eqb n 6) (λ u. omega (arith, eqb→eq n 6 u)) (λ u. omega (arith, the-longest n e (neqb→ne n 2 t) (neqb→ne n 6 u))))
+    (λ t. cases (eqb n 6) (λ u. omega (arith, eqb→eq n 6 u))
+    (λ u. omega (arith, the-longest n e (neqb→ne n 2 t) (neqb→ne n 6 u))))
 
 -- ---- the returns of `record_at`: s are the bytes, p the position
 
@@ -112,25 +137,75 @@ module _ (s : List ℕ) (p : ℕ) where
         module _ (three : 3 ≤ length s - p) where
           pub wrong-version : getD s (p + 2) 0 ≢ 1 → broken ≡ recordAt s p
           unfolding recordAt whether lengthAt
-          wrong-version ne = rw (some-left, le-ltb (length s - p) 2 two, ← at-n, known, le-ltb (length s - p) 3 three, ne-eqb (getD s (p + 2) 0) 1 ne)
+          wrong-version ne = rw (
+            some-left,
+            le-ltb (length s - p) 2 two,
+            ← at-n,
+            known,
+            le-ltb (length s - p) 3 three,
+            ne-eqb (getD s (p + 2) 0) 1 ne,
+          )
 
           module _ (right : getD s (p + 2) 0 ≡ 1) where
             pub cut-in-operation : length s - p < 4 → cut ≡ recordAt s p
             unfolding recordAt whether lengthAt
-            cut-in-operation lt = rw (some-left, le-ltb (length s - p) 2 two, ← at-n, known, le-ltb (length s - p) 3 three, right, lt-ltb (length s - p) 4 lt)
+            cut-in-operation lt = rw (
+              some-left,
+              le-ltb (length s - p) 2 two,
+              ← at-n,
+              known,
+              le-ltb (length s - p) 3 three,
+              right,
+              lt-ltb (length s - p) 4 lt,
+            )
 
             module _ (four : 4 ≤ length s - p) (m : ℕ) (at-m : m ≡ lengthOf (getD s (p + 3) 0)) where
               pub wrong-operation : n ≢ m → broken ≡ recordAt s p
               unfolding recordAt whether lengthAt
-              wrong-operation ne = rw (some-left, le-ltb (length s - p) 2 two, ← at-n, known, le-ltb (length s - p) 3 three, right, le-ltb (length s - p) 4 four, ← at-m, ne-eqb n m ne)
+              wrong-operation ne = rw (
+                some-left,
+                le-ltb (length s - p) 2 two,
+                ← at-n,
+                known,
+                le-ltb (length s - p) 3 three,
+                right,
+                le-ltb (length s - p) 4 four,
+                ← at-m,
+                ne-eqb n m ne,
+              )
 
               module _ (same : n ≡ m) where
                 pub cut-in-operands : length s - p < 2 + n → cut ≡ recordAt s p
                 unfolding recordAt whether lengthAt
-                cut-in-operands lt = rw (some-left, le-ltb (length s - p) 2 two, ← at-n, known, le-ltb (length s - p) 3 three, right, le-ltb (length s - p) 4 four, ← at-m, eq-eqb n m same, lt-ltb (length s - p) (2 + n) lt)
+                cut-in-operands lt = rw (
+                  some-left,
+                  le-ltb (length s - p) 2 two,
+                  ← at-n,
+                  known,
+                  le-ltb (length s - p) 3 three,
+                  right,
+                  le-ltb (length s - p) 4 four,
+                  ← at-m,
+                  eq-eqb n m same,
+                  lt-ltb (length s - p) (2 + n) lt,
+                )
 
-                pub takes : (e : Entry) (q : ℕ) → 2 + n ≤ length s - p → e ≡ entryOf (getD s (p + 3) 0) (wordAt s (p + 4)) (wordAt s (p + 8)) → q ≡ p + (2 + n)
+                pub takes : (e : Entry) (q : ℕ) → 2 + n ≤ length s - p
+                    → e ≡ entryOf (getD s (p + 3) 0) (wordAt s (p + 4)) (wordAt s (p + 8)) → q ≡ p + (2 + n)
                     → taken e q ≡ recordAt s p
                 unfolding recordAt whether lengthAt
                 takes e q all at-e at-q =
-                    rw (some-left, le-ltb (length s - p) 2 two, ← at-n, known, le-ltb (length s - p) 3 three, right, le-ltb (length s - p) 4 four, ← at-m, eq-eqb n m same, le-ltb (length s - p) (2 + n) all, at-e, at-q)
+                    rw (
+                      some-left,
+                      le-ltb (length s - p) 2 two,
+                      ← at-n,
+                      known,
+                      le-ltb (length s - p) 3 three,
+                      right,
+                      le-ltb (length s - p) 4 four,
+                      ← at-m,
+                      eq-eqb n m same,
+                      le-ltb (length s - p) (2 + n) all,
+                      at-e,
+                      at-q,
+                    )

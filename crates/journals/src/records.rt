@@ -19,7 +19,8 @@ pub enum Operation {
     Remove(u32),
 }
 
-// What stands at a position: an operation, and the position behind its record; a broken record; one cut short; the end of the bytes.
+// What stands at a position: an operation, and the position behind
+// its record; a broken record; one cut short; the end of the bytes.
 pub enum Record {
     Taken { operation: Operation, next: usize },
     Broken,
@@ -97,7 +98,8 @@ fn with_two(o: u8, x: u32, y: u32) -> Operation
 // Operation o of a record of length n at a position, with its operands.
 fn operation_at(bytes: &[u8], at: usize, o: u8, n: usize) -> Operation
     requires { ⌜ (n ≡ lengthOf o) × (someLength n ≡ true) × (at + (2 + n) ≤ length (now bytes)) ⌝ }
-    ensures { λ r. ⌜ entryFor r ≡ entryOf o (wordAt (now (bytes .entry)) (at + 4)) (wordAt (now (bytes .entry)) (at + 8)) ⌝ }
+    ensures { λ r.
+        ⌜ entryFor r ≡ entryOf o (wordAt (now (bytes .entry)) (at + 4)) (wordAt (now (bytes .entry)) (at + 8)) ⌝ }
 {
     if n == 2 {
         return with_none(o);

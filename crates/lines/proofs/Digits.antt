@@ -18,7 +18,8 @@ unfolding digitsOf whether
 enough zero k n a b = absurd (omega arith)
 enough (suc j) zero n a b = absurd (omega arith)
 enough (suc j) (suc k) n a b =
-    ⊎-elim (λ lt. rw (lt-ltb n 10 lt)) (λ ge. rw (le-ltb n 10 ge, enough j k (n / 10) (omega arith) (omega arith))) (lt-or-ge n 10)
+    ⊎-elim (λ lt. rw (lt-ltb n 10 lt)) (λ ge. rw (le-ltb n 10 ge, enough j k (n / 10) (omega arith) (omega arith)))
+    (lt-or-ge n 10)
 
 pub decimal-digit : (n : ℕ) → n < 10 → decimal n ≡ (48 + n) ∷ []
 unfolding decimal digitsOf whether
@@ -26,7 +27,8 @@ decimal-digit n lt = rw (lt-ltb n 10 lt)
 
 pub decimal-more : (n : ℕ) → 10 ≤ n → decimal n ≡ decimal (n / 10) ++ (48 + n % 10) ∷ []
 unfolding decimal digitsOf whether
-decimal-more n ge = rw (le-ltb n 10 ge) (ap (λ (l : List ℕ). l ++ (48 + n % 10) ∷ []) (enough n (suc (n / 10)) (n / 10) (omega arith) (omega arith)))
+decimal-more n ge = rw (le-ltb n 10 ge)
+    (ap (λ (l : List ℕ). l ++ (48 + n % 10) ∷ []) (enough n (suc (n / 10)) (n / 10) (omega arith) (omega arith)))
 
 length-more : (n : ℕ) → 10 ≤ n → length (decimal n) ≡ length (decimal (n / 10)) + 1
 length-more n ge = ap length (decimal-more n ge) ∙ length-append (decimal (n / 10)) ((48 + n % 10) ∷ [])
@@ -51,8 +53,10 @@ twenty-digits n lt = few-digits 19 n (omega arith)
 pub puts-digit : (t : List ℕ) (p n : ℕ) → n < 10 → Puts t (set t p (48 + n)) p (p + 1) (decimal n)
 puts-digit t p n lt = puts-as t p _ _ _ _ (sym (decimal-digit n lt)) (puts-one t p (48 + n) (p + 1) refl)
 
-pub puts-digits : (t t1 : List ℕ) (p q n : ℕ) → 10 ≤ n → Puts t t1 p q (decimal (n / 10)) → Puts t (set t1 q (48 + n % 10)) p (q + 1) (decimal n)
-puts-digits t t1 p q n ge a = puts-as t p _ _ _ _ (sym (decimal-more n ge)) (puts-more t p t1 q (q + 1) (48 + n % 10) (decimal (n / 10)) a refl)
+pub puts-digits : (t t1 : List ℕ) (p q n : ℕ) → 10 ≤ n → Puts t t1 p q (decimal (n / 10))
+    → Puts t (set t1 q (48 + n % 10)) p (q + 1) (decimal n)
+puts-digits t t1 p q n ge a = puts-as t p _ _ _ _ (sym (decimal-more n ge))
+    (puts-more t p t1 q (q + 1) (48 + n % 10) (decimal (n / 10)) a refl)
 
 -- there is room for the last digit behind the others
 pub digits-room : (n : ℕ) → 10 ≤ n → length (decimal (n / 10)) + 1 ≤ length (decimal n)

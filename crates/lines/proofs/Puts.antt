@@ -17,14 +17,16 @@ module _ (t : List ℕ) (p : ℕ) where
   puts-one v q e = record { stands = refl; next = e }
 
   -- then others
-  pub puts-append : (t1 t2 : List ℕ) (q r : ℕ) (s u : List ℕ) → Puts t t1 p q s → Puts t1 t2 q r u → Puts t t2 p r (s ++ u)
+  pub puts-append : (t1 t2 : List ℕ) (q r : ℕ) (s u : List ℕ) → Puts t t1 p q s → Puts t1 t2 q r u
+      → Puts t t2 p r (s ++ u)
   puts-append t1 t2 q r s u a b = record {
     stands = b .stands ∙ ap (λ (x : List ℕ). sets x q u) (a .stands) ∙ sets-append t p q s u (a .next);
     next = omega (arith, a .next, b .next, length-append s u);
   }
 
   -- then one more
-  pub puts-more : (t1 : List ℕ) (q r v : ℕ) (s : List ℕ) → Puts t t1 p q s → r ≡ q + 1 → Puts t (set t1 q v) p r (s ++ v ∷ [])
+  pub puts-more : (t1 : List ℕ) (q r v : ℕ) (s : List ℕ) → Puts t t1 p q s → r ≡ q + 1
+      → Puts t (set t1 q v) p r (s ++ v ∷ [])
   puts-more t1 q r v s a e = record {
     stands = ap (λ (x : List ℕ). set x q v) (a .stands) ∙ sets-append t p q s (v ∷ []) (a .next);
     next = omega (arith, a .next, e, length-append s (v ∷ []));

@@ -19,7 +19,8 @@ use types.Run.{OneOf, miss}
 spaced-append : (u v : List (List ℕ)) → spaced (u ++ v) ≡ spaced u ++ spaced v
 unfolding spaced
 spaced-append [] v = refl
-spaced-append (w ∷ u) v = ap (λ (l : List ℕ). space ∷ w ++ l) (spaced-append u v) ∙ ap (λ (l : List ℕ). space ∷ l) (sym (append-assoc w (spaced u) (spaced v)))
+spaced-append (w ∷ u) v = ap (λ (l : List ℕ). space ∷ w ++ l) (spaced-append u v)
+    ∙ ap (λ (l : List ℕ). space ∷ l) (sym (append-assoc w (spaced u) (spaced v)))
 
 spaced-one : (w : List ℕ) → space ∷ w ≡ spaced (w ∷ [])
 unfolding spaced
@@ -30,7 +31,8 @@ whole-line : (w : List ℕ) (u v : List (List ℕ)) → ((w ++ spaced u) ++ spac
 unfolding lineOf
 whole-line w u v =
     append-assoc (w ++ spaced u) (spaced v) (newline ∷ []) ∙ append-assoc w (spaced u) (spaced v ++ newline ∷ [])
-    ∙ ap (λ (l : List ℕ). w ++ l) (sym (append-assoc (spaced u) (spaced v) (newline ∷ [])) ∙ ap (λ (l : List ℕ). l ++ newline ∷ []) (sym (spaced-append u v)))
+    ∙ ap (λ (l : List ℕ). w ++ l) (sym (append-assoc (spaced u) (spaced v) (newline ∷ []))
+    ∙ ap (λ (l : List ℕ). l ++ newline ∷ []) (sym (spaced-append u v)))
 
 -- ---- what a line says of an operation
 
@@ -41,7 +43,8 @@ saying = 2 ∷ 3 ∷ 8 ∷ []
 abbrev silent : List ℕ
 silent = 0 ∷ 1 ∷ 4 ∷ 5 ∷ 6 ∷ 7 ∷ []
 
-word : (o : Operation) (h : Option ℕ) → OneOf saying (tagOf the-type o) → numberOrNone h ∷ [] ≡ handedWord (entryFor o) h
+word : (o : Operation) (h : Option ℕ) → OneOf saying (tagOf the-type o)
+    → numberOrNone h ∷ [] ≡ handedWord (entryFor o) h
 unfolding handedWord
 word PopFront h k = refl
 word PopBack h k = refl
@@ -66,7 +69,8 @@ no-word (TruncateFront n) h k = refl
 no-word (Insert i v) h k = refl
 
 module _ (t : List ℕ) (p : ℕ) (o : Operation) (h : Option ℕ) where
-  pub says : (t′ : List ℕ) (q : ℕ) → OneOf saying (tagOf the-type o) → Puts t t′ p q (space ∷ numberOrNone h) → Puts t t′ p q (spaced (handedWord (entryFor o) h))
+  pub says : (t′ : List ℕ) (q : ℕ) → OneOf saying (tagOf the-type o) → Puts t t′ p q (space ∷ numberOrNone h)
+      → Puts t t′ p q (spaced (handedWord (entryFor o) h))
   says t′ q k a = puts-as t p t′ q _ _ (spaced-one (numberOrNone h) ∙ ap spaced (word o h k)) a
 
   pub says-nothing : OneOf silent (tagOf the-type o) → Puts t t p p (spaced (handedWord (entryFor o) h))
@@ -76,13 +80,15 @@ module _ (t : List ℕ) (p : ℕ) (o : Operation) (h : Option ℕ) where
 -- ---- the numbers, and the lines
 
 module _ (t t1 t2 t3 t4 : List ℕ) (p a b c q : ℕ) where
-  pub puts-numbers : (n m h : ℕ) (r : Rec) → h ≡ r .head → Puts t t1 p a (decimal n) → Puts t1 t2 a b (space ∷ decimal m) → Puts t2 t3 b c (space ∷ decimal h)
+  pub puts-numbers : (n m h : ℕ) (r : Rec) → h ≡ r .head → Puts t t1 p a (decimal n)
+      → Puts t1 t2 a b (space ∷ decimal m) → Puts t2 t3 b c (space ∷ decimal h)
       → Puts t3 t4 c q (space ∷ decimal (r .len)) → Puts t t4 p q (fourNumbers n m r)
   unfolding fourNumbers
   puts-numbers n m h r at-h w x y z =
       let xy = puts-append t1 a t2 t3 b c _ _ x (puts-as t2 b t3 c _ _ (ap (λ (k : ℕ). space ∷ decimal k) at-h) y) in
       let xyz = puts-append t1 a t3 t4 c q _ _ xy z in
-      puts-as t p t4 q _ _ (ap (λ (l : List ℕ). decimal n ++ l) (three (decimal m) (decimal (r .head)) (decimal (r .len)))) (puts-append t p t1 t4 a q _ _ w xyz)
+      puts-as t p t4 q _ _ (ap (λ (l : List ℕ). decimal n ++ l)
+      (three (decimal m) (decimal (r .head)) (decimal (r .len)))) (puts-append t p t1 t4 a q _ _ w xyz)
     where
       three : (u v w : List ℕ) → ((space ∷ u) ++ (space ∷ v)) ++ (space ∷ w) ≡ spaced (u ∷ v ∷ w ∷ [])
       three u v w =
@@ -93,14 +99,18 @@ module _ (t t1 t2 t3 t4 : List ℕ) (p a b c q : ℕ) where
 module _ (t t1 t2 t3 : List ℕ) (p a b q : ℕ) where
   pub puts-answer : (r : Rec) (e : Entry) (x : Answer) (r′ : Rec) → r′ ≡ recOr r (x .state)
       → Puts t t1 p a (fourNumbers (x .refused) (x .moved) r′)
-      → Puts t1 t2 a b (spaced (handedWord e (x .handed))) → Puts t2 t3 b q (newline ∷ []) → Puts t t3 p q (answerLine r e x)
+      → Puts t1 t2 a b (spaced (handedWord e (x .handed))) → Puts t2 t3 b q (newline ∷ [])
+      → Puts t t3 p q (answerLine r e x)
   unfolding answerLine fourNumbers
   puts-answer r e x r′ h w y z =
       let k = recOr r (x .state) in
       puts-as t p t3 q _ _
-      (rw h (whole-line (decimal (x .refused)) (decimal (x .moved) ∷ decimal (k .head) ∷ decimal (k .len) ∷ []) (handedWord e (x .handed))))
+      (rw h (whole-line (decimal (x .refused)) (decimal (x .moved) ∷ decimal (k .head) ∷ decimal (k .len) ∷ [])
+      (handedWord e (x .handed))))
       (puts-append t p t2 t3 b q _ _ (puts-append t p t1 t2 a b _ _ w y) z)
 
-pub puts-broken : (t t1 t2 : List ℕ) (p a q : ℕ) (r : Rec) → Puts t t1 p a (fourNumbers 5 0 r) → Puts t1 t2 a q (newline ∷ []) → Puts t t2 p q (brokenLine r)
+pub puts-broken : (t t1 t2 : List ℕ) (p a q : ℕ) (r : Rec) → Puts t t1 p a (fourNumbers 5 0 r)
+    → Puts t1 t2 a q (newline ∷ []) → Puts t t2 p q (brokenLine r)
 unfolding brokenLine fourNumbers lineOf
-puts-broken t t1 t2 p a q r w z = puts-as t p t2 q _ _ (append-assoc (decimal 5) _ (newline ∷ [])) (puts-append t p t1 t2 a q _ _ w z)
+puts-broken t t1 t2 p a q r w z =
+    puts-as t p t2 q _ _ (append-assoc (decimal 5) _ (newline ∷ [])) (puts-append t p t1 t2 a q _ _ w z)

@@ -1,4 +1,5 @@
-// The lines of the replay program, as bytes. Each function puts its bytes from a position on, and gives the position behind them.
+// The lines of the replay program, as bytes. Each function puts its
+// bytes from a position on, and gives the position behind them.
 use super::decimals::put_decimal;
 use answers::Answer;
 use elements::Given;
@@ -59,7 +60,8 @@ fn put_none(out: &mut [u8], at: usize) -> usize
 // Puts the number that was handed over, or `none`, after a space.
 fn put_given(out: &mut [u8], at: usize, handed: Given) -> usize
     requires { ⌜ at + 21 ≤ length (now out) ⌝ }
-    ensures { λ r. ⌜ Puts (now (out .entry)) (now (out .exit)) at r (space ∷ numberOrNone (ofGiven handed)) × (r ≤ at + 21) ⌝ }
+    ensures { λ r.
+        ⌜ Puts (now (out .entry)) (now (out .exit)) at r (space ∷ numberOrNone (ofGiven handed)) × (r ≤ at + 21) ⌝ }
 {
     match handed {
         Given::Number(v) => put_word(out, at, v as usize),
@@ -70,7 +72,9 @@ fn put_given(out: &mut [u8], at: usize, handed: Given) -> usize
 // Puts what was handed over, for the operations whose line says it.
 fn put_handed(out: &mut [u8], at: usize, operation: Operation, handed: Given) -> usize
     requires { ⌜ at + 21 ≤ length (now out) ⌝ }
-    ensures { λ r. ⌜ Puts (now (out .entry)) (now (out .exit)) at r (spaced (handedWord (entryFor operation) (ofGiven handed))) × (r ≤ at + 21) ⌝ }
+    ensures { λ r.
+        ⌜ Puts (now (out .entry)) (now (out .exit)) at r (spaced (handedWord (entryFor operation) (ofGiven handed)))
+        × (r ≤ at + 21) ⌝ }
 {
     match operation {
         Operation::PopFront | Operation::PopBack | Operation::Remove(_) => {
@@ -83,7 +87,8 @@ fn put_handed(out: &mut [u8], at: usize, operation: Operation, handed: Given) ->
 // Puts the four numbers that begin every record's line, parted by one space: refusal, moved, head and len.
 fn put_numbers(out: &mut [u8], at: usize, refused: usize, moved: usize, q: Deque) -> usize
     requires { ⌜ at + 83 ≤ length (now out) ⌝ }
-    ensures { λ r. ⌜ Puts (now (out .entry)) (now (out .exit)) at r (fourNumbers refused moved (recOf q)) × (r ≤ at + 83) ⌝ }
+    ensures { λ r.
+        ⌜ Puts (now (out .entry)) (now (out .exit)) at r (fourNumbers refused moved (recOf q)) × (r ≤ at + 83) ⌝ }
 {
     let a = put_decimal(out, at, refused);
     let b = put_word(out, a, moved);

@@ -16,8 +16,11 @@ ghost use Rattle.queue.specs.Answers.{recOf, ofChange};
 
 // Makes room at index by moving the elements from there on, and stores v.
 fn insert_later(slots: &mut [u32], head: WrappedIndex, len: usize, index: usize, v: u32)
-    requires { ⌜ (head .0 < length (now slots)) × (index ≤ len) × (len < length (now slots)) × (length (now slots) ≤ mostSlots) ⌝ }
-    ensures { λ _. ⌜ now (slots .exit) ≡ lay (now (slots .entry)) (head .0) (inserted (listOf (now (slots .entry)) (head .0) len) index v) ⌝ }
+    requires { ⌜ (head .0 < length (now slots)) × (index ≤ len) × (len < length (now slots))
+        × (length (now slots) ≤ mostSlots) ⌝ }
+    ensures { λ _.
+        ⌜ now (slots .exit)
+        ≡ lay (now (slots .entry)) (head .0) (inserted (listOf (now (slots .entry)) (head .0) len) index v) ⌝ }
 {
     // V in front of E: E and F move
     //
@@ -44,9 +47,12 @@ fn insert_earlier(
     index: usize,
     v: u32,
 )
-    requires { ⌜ (head .0 < length (now slots)) × (index ≤ len) × (len < length (now slots)) × (length (now slots) ≤ mostSlots) ⌝ }
+    requires { ⌜ (head .0 < length (now slots)) × (index ≤ len) × (len < length (now slots))
+        × (length (now slots) ≤ mostSlots) ⌝ }
     requires { ⌜ back .0 ≡ stepBack (length (now slots)) (head .0) 1 ⌝ }
-    ensures { λ _. ⌜ now (slots .exit) ≡ lay (now (slots .entry)) (back .0) (inserted (listOf (now (slots .entry)) (head .0) len) index v) ⌝ }
+    ensures { λ _.
+        ⌜ now (slots .exit)
+        ≡ lay (now (slots .entry)) (back .0) (inserted (listOf (now (slots .entry)) (head .0) len) index v) ⌝ }
 {
     // V in front of C: A and B move
     //
@@ -65,7 +71,8 @@ fn insert_earlier(
 
 // Puts v at position index.
 pub fn insert(slots: &mut [u32], q: Deque, index: usize, v: u32) -> Change
-    ensures { λ r. ⌜ (ofChange r, now (slots .exit)) ≡ told (doRule (now (slots .entry)) (recOf q) (insertAt index v)) ⌝ }
+    ensures { λ r.
+        ⌜ (ofChange r, now (slots .exit)) ≡ told (doRule (now (slots .entry)) (recOf q) (insertAt index v)) ⌝ }
 {
     let cap = slots.len();
     if let Checked::Refused(refusal) = queue::check_change(cap, q) {

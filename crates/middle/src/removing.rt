@@ -16,8 +16,11 @@ ghost use Rattle.elements.specs.Answers.{ofHanded};
 
 // Closes the gap at index by moving the elements behind it.
 fn remove_later(slots: &mut [u32], head: WrappedIndex, len: usize, index: usize)
-    requires { ⌜ (head .0 < length (now slots)) × (index < len) × (len ≤ length (now slots)) × (length (now slots) ≤ mostSlots) ⌝ }
-    ensures { λ _. ⌜ now (slots .exit) ≡ lay (now (slots .entry)) (head .0) (without (listOf (now (slots .entry)) (head .0) len) index) ⌝ }
+    requires { ⌜ (head .0 < length (now slots)) × (index < len) × (len ≤ length (now slots))
+        × (length (now slots) ≤ mostSlots) ⌝ }
+    ensures { λ _.
+        ⌜ now (slots .exit)
+        ≡ lay (now (slots .entry)) (head .0) (without (listOf (now (slots .entry)) (head .0) len) index) ⌝ }
 {
     // D is handed over: E and F move
     //
@@ -40,9 +43,12 @@ fn remove_earlier(
     len: usize,
     index: usize,
 )
-    requires { ⌜ (head .0 < length (now slots)) × (index < len) × (len ≤ length (now slots)) × (length (now slots) ≤ mostSlots) ⌝ }
+    requires { ⌜ (head .0 < length (now slots)) × (index < len) × (len ≤ length (now slots))
+        × (length (now slots) ≤ mostSlots) ⌝ }
     requires { ⌜ next .0 ≡ place (length (now slots)) (head .0) 1 ⌝ }
-    ensures { λ _. ⌜ now (slots .exit) ≡ lay (now (slots .entry)) (next .0) (without (listOf (now (slots .entry)) (head .0) len) index) ⌝ }
+    ensures { λ _.
+        ⌜ now (slots .exit)
+        ≡ lay (now (slots .entry)) (next .0) (without (listOf (now (slots .entry)) (head .0) len) index) ⌝ }
 {
     // C is handed over: A and B move
     //

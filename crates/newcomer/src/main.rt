@@ -1,4 +1,5 @@
-// A first program over the queue: parks instance numbers, takes a settled stretch out of the middle, and prints what is left.
+// A first program over the queue: parks instance numbers, takes
+// a settled stretch out of the middle, and prints what is left.
 // It names `vec_deque` alone, beside the kit's `io` and `libc` to print.
 use libc::STDOUT_FILENO;
 use vec_deque::Change;
@@ -26,7 +27,8 @@ fn print_queue(slots: &[u32], queue: Deque) {
     io::write_all(STDOUT_FILENO, b"\n");
 }
 
-// Parks 10, 20, .. up to so many numbers behind the queue, and gives the record back. A full queue refuses and stays as it is.
+// Parks 10, 20, .. up to so many numbers behind the queue, and
+// gives the record back. A full queue refuses and stays as it is.
 fn park(slots: &mut [u32], queue: Deque, count: u32) -> Deque {
     let mut parked = queue;
     for i in 0..count {

@@ -1,4 +1,5 @@
--- An answer is fixed by document 01's number and values for it: two answers of which the same is said are one. Assumes nothing.
+-- An answer is fixed by document 01's number and values for it:
+-- two answers of which the same is said are one. Assumes nothing.
 use mathlib.Core.Option.{Option, none, some}
 use mathlib.Core.Path.{_≡_, refl, sym, _∙_, ap}
 use Prim.Native.Nat.{ℕ}
@@ -28,7 +29,8 @@ dequeOf (shut r) = record { head = record { 0 = r .head }; len = r .len }
 dequeOf (draining d) = record { head = record { 0 = d .head }; len = 0 }
 
 changeOf : Answer → Change
-changeOf a = whether (eqb (a .refused) 0) (Done (dequeOf (a .state)) (a .moved)) (Refused (named (a .refused)) (dequeOf (a .state)) (a .moved))
+changeOf a = whether (eqb (a .refused) 0) (Done (dequeOf (a .state)) (a .moved))
+    (Refused (named (a .refused)) (dequeOf (a .state)) (a .moved))
 
 recordOr : Option Rec → ℕ → ℕ → Made
 recordOr none n m = NotMade (named n) m

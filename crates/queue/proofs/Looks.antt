@@ -1,4 +1,5 @@
--- One law for each way in which a call that looks at a queue returns. b, r: the slots and the record that it was given; f: what it sees in a list. Assumes nothing.
+-- One law for each way in which a call that looks at a queue returns. b, r: the slots
+-- and the record that it was given; f: what it sees in a list. Assumes nothing.
 use mathlib.Core.List.{List}
 use mathlib.Core.Path.{_≡_, ap, sym, _∙_}
 use Prim.Native.Nat.{ℕ}
@@ -17,7 +18,8 @@ use Rattle.queue.specs.declared.refusals.Checked.the-variants.{Refused a
 
 module _ {A : Type 0} (b : List ℕ) (r : Rec) (f : List ℕ → A) where
   -- refused by the tests of slots and record, which said t
-  pub look-first : (t : Checked) → numberIn t ≡ onQueue (length b) r 0 → (x : Refusal) → t ≡ Failed x → refuses (numberOf x) ≡ lookAt b r f
+  pub look-first : (t : Checked) → numberIn t ≡ onQueue (length b) r 0 → (x : Refusal) → t ≡ Failed x
+      → refuses (numberOf x) ≡ lookAt b r f
   unfolding lookAt looked
   look-first t asked x e =
       let is = failed-number t x _ asked e in

@@ -1,4 +1,5 @@
--- A range of positions: one law for each return of `check_range`, and what it tells where more is asked. Assumes nothing.
+-- A range of positions: one law for each return of `check_range`,
+-- and what it tells where more is asked. Assumes nothing.
 use mathlib.Core.Bool.{Bool, true, false}
 use mathlib.Core.Logic.{_≢_}
 use mathlib.Core.Path.{_≡_, sym}

@@ -1,4 +1,5 @@
--- Walks, spans, and the answers of calls that only look, in the terms of the rules: what was seen, or the number. Assumes nothing.
+-- Walks, spans, and the answers of calls that only look, in the
+-- terms of the rules: what was seen, or the number. Assumes nothing.
 use mathlib.Core.Bool.{Bool}
 use Prim.Native.Nat.{ℕ}
 use Rattle.queue.specs.Answers.{recOf, numberOf}

@@ -140,7 +140,8 @@ pub fn as_opened(d: Drain) -> Deque
 pub fn closed_record(d: Drain, head: WrappedIndex) -> Deque
     requires { ⌜ spread (drainOf d) < 18446744073709551616 ⌝ }
     ensures { λ r. ⌜ recOf r
-        ≡ stepped (asOpened (drainOf d)) (whether (eqb (d .start + d .«tail_len») 0) 0 (head .0)) (d .start + d .«tail_len») ⌝ }
+        ≡ stepped (asOpened (drainOf d)) (whether (eqb (d .start + d .«tail_len») 0) 0 (head .0))
+        (d .start + d .«tail_len») ⌝ }
 {
     let len = d.start + d.tail_len;
     stepped(as_opened(d), head_over(head, len), len)

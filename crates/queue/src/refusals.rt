@@ -78,8 +78,8 @@ pub fn check_range(len: usize, start: usize, end: usize) -> Checked
     Checked::Good
 }
 
-// Whether the parts of the drain's queue fit so many slots and what remains lies in the drained range, where the head is
-// good. The numbers may be any: no sum is made before it is known to fit.
+// Whether the parts of the drain's queue fit so many slots and what remains lies in the drained
+// range, where the head is good. The numbers may be any: no sum is made before it is known to fit.
 fn good_parts(cap: usize, d: Drain) -> bool
     requires { ⌜ goodHead cap (d .head .0) ≡ true ⌝ }
     ensures { λ r. ⌜ r ≡ goodDrain cap (drainOf d) ⌝ }

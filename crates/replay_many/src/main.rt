@@ -1,5 +1,6 @@
-// Runs many journals: standard input is, again and again, a length of four bytes big-endian and that many bytes of a journal. Each journal is
-// run as by `replay`, in the same slots, in which the values of the journals before it still stand.
+// Runs many journals: standard input is, again and again, a length of four bytes
+// big-endian and that many bytes of a journal. Each journal is run as by `replay`,
+// in the same slots, in which the values of the journals before it still stand.
 use libc::STDIN_FILENO;
 
 // What stands before the next journal: its length, or the end of the input.
@@ -18,7 +19,8 @@ fn next_header() -> Header {
     Header::Length(images::four_at(&bytes, 0))
 }
 
-// Runs a journal of that length, and passes over what a broken record left unread; false where a write failed or the input ended.
+// Runs a journal of that length, and passes over what a broken
+// record left unread; false where a write failed or the input ended.
 fn run_one(slots: &mut [u32], input: &mut [u8], out: &mut [u8], length: u32) -> bool {
     let replayed = replays::replay(slots, input, out, length as u64);
     if replayed.open {
@@ -27,7 +29,8 @@ fn run_one(slots: &mut [u32], input: &mut [u8], out: &mut [u8], length: u32) -> 
     false
 }
 
-// Runs one journal after the other. A proved loop has to end, and nothing says that the input does: the journals are counted down.
+// Runs one journal after the other. A proved loop has to end, and
+// nothing says that the input does: the journals are counted down.
 fn run_all(slots: &mut [u32], input: &mut [u8], out: &mut [u8]) {
     let mut turns = u64::MAX;
     while turns > 0 {

@@ -1,4 +1,5 @@
-// Runs a journal from standard input on a queue in lent slots, and writes what each record gave; last, the elements that are left.
+// Runs a journal from standard input on a queue in lent slots, and
+// writes what each record gave; last, the elements that are left.
 mod last; // last.rt: the last line
 mod output; // output.rt: what is written, through a buffer
 mod reading; // reading.rt: what is read, through a buffer

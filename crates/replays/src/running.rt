@@ -49,7 +49,8 @@ fn ended(queue: Deque, have: usize, out: &mut [u8], output: Output, unread: u64)
     }
 }
 
-// Reads the journal in pieces, at most `limit` bytes, and plays its records. Every piece takes from the limit, so the reading ends whatever the input does.
+// Reads the journal in pieces, at most `limit` bytes, and plays its records.
+// Every piece takes from the limit, so the reading ends whatever the input does.
 fn run(slots: &mut [u32], begin: Deque, input: &mut [u8], out: &mut [u8], limit: u64) -> Ran
     requires { ⌜ 105 ≤ length (now out) ⌝ }
     ensures { λ r. ⌜ r .unread ≤ limit ⌝ }
@@ -89,8 +90,10 @@ fn run(slots: &mut [u32], begin: Deque, input: &mut [u8], out: &mut [u8], limit:
     ended(queue, have, out, output, unread)
 }
 
-// Makes a fresh queue in the slots, plays the records of at most `limit` bytes of standard input, and writes a line for each and the last line.
-// Too many slots and a buffer that is too short for a record (12 bytes) or a line (105) are refused: nothing is read or written.
+// Makes a fresh queue in the slots, plays the records of at most `limit`
+// bytes of standard input, and writes a line for each and the last line.
+// Too many slots and a buffer that is too short for a record (12
+// bytes) or a line (105) are refused: nothing is read or written.
 pub fn replay(slots: &mut [u32], input: &mut [u8], out: &mut [u8], limit: u64) -> Replayed
     ensures { λ r. ⌜ r .unread ≤ limit ⌝ }
     ensures { λ r. ⌜ (length (now (input .entry)) < 12 → r .open ≡ false) ⌝ }

@@ -14,15 +14,19 @@ pub arm : {A B C : Type 0} (f : B → C) (o : A → B) (a a′ : A) → a′ ≡
 arm f o a a′ is = ap (λ x. f (o x)) (sym is)
 
 -- two parts that come from calls, which give s′ and t′
-pub arm-two : {A B S T : Type 0} (f : B → S × T) (o : A → B) (s s′ : S) (t t′ : T) (a a′ : A) → s ≡ s′ → t ≡ t′ → (s′, t′) ≡ f (o a) → a′ ≡ a → (s, t) ≡ f (o a′)
+pub arm-two : {A B S T : Type 0} (f : B → S × T) (o : A → B) (s s′ : S) (t t′ : T) (a a′ : A) → s ≡ s′ → t ≡ t′
+    → (s′, t′) ≡ f (o a) → a′ ≡ a → (s, t) ≡ f (o a′)
 arm-two f o s s′ t t′ a a′ one two makes is = ap (λ x. (x, t)) one ∙ ap (λ x. (s′, x)) two ∙ makes ∙ arm f o a a′ is
 
 -- three
-pub arm-three : {A B S T U : Type 0} (f : B → S × T × U) (o : A → B) (s s′ : S) (t t′ : T) (u u′ : U) (a a′ : A) → s ≡ s′ → t ≡ t′ → u ≡ u′ → (s′, t′, u′) ≡ f (o a) → a′ ≡ a → (s, t, u) ≡ f (o a′)
-arm-three f o s s′ t t′ u u′ a a′ one two three makes is = ap (λ x. (x, t, u)) one ∙ ap (λ x. (s′, x, u)) two ∙ ap (λ x. (s′, t′, x)) three ∙ makes ∙ arm f o a a′ is
+pub arm-three : {A B S T U : Type 0} (f : B → S × T × U) (o : A → B) (s s′ : S) (t t′ : T) (u u′ : U) (a a′ : A)
+    → s ≡ s′ → t ≡ t′ → u ≡ u′ → (s′, t′, u′) ≡ f (o a) → a′ ≡ a → (s, t, u) ≡ f (o a′)
+arm-three f o s s′ t t′ u u′ a a′ one two three makes is =
+    ap (λ x. (x, t, u)) one ∙ ap (λ x. (s′, x, u)) two ∙ ap (λ x. (s′, t′, x)) three ∙ makes ∙ arm f o a a′ is
 
 -- the refusal number alone
-pub arm-refused : {A B C : Type 0} (f : B → ℕ × C) (o : A → B) (n k : ℕ) (rest : C) (a a′ : A) → n ≡ k → (k, rest) ≡ f (o a) → a′ ≡ a → (n, rest) ≡ f (o a′)
+pub arm-refused : {A B C : Type 0} (f : B → ℕ × C) (o : A → B) (n k : ℕ) (rest : C) (a a′ : A) → n ≡ k
+    → (k, rest) ≡ f (o a) → a′ ≡ a → (n, rest) ≡ f (o a′)
 arm-refused f o n k rest a a′ number makes is = arm-two f o n k rest rest a a′ number refl makes is
 
 -- refused: no word is stored

@@ -1,5 +1,5 @@
--- An exported call that changes the caller's record answers as the call below it: f is what C gets of an answer, p what is
--- said, w the words of the record after, s the slots. Assumes nothing.
+-- An exported call that changes the caller's record answers as the call below it: f is what C gets
+-- of an answer, p what is said, w the words of the record after, s the slots. Assumes nothing.
 use mathlib.Core.List.{List}
 use mathlib.Core.Path.{_≡_, _∙_, ap}
 use Prim.Native.Nat.{ℕ}
@@ -24,6 +24,7 @@ on-record old p w a s o o′ same flat is =
 
 -- r is the record that the call below was given, r′ the one in the caller's words
 pub by-rule : (b : List ℕ) (r r′ : Rec) → r ≡ r′ → (old : Words) (p : Said) (R : Rule) (w : Words)
-    (a : Answer) (s : List ℕ) → (p, w) ≡ answerInC old a → (a, s) ≡ told (doRule b r R) → (p, w, s) ≡ toldInC old (doRule b r′ R)
+    (a : Answer) (s : List ℕ) → (p, w) ≡ answerInC old a → (a, s) ≡ told (doRule b r R)
+    → (p, w, s) ≡ toldInC old (doRule b r′ R)
 by-rule b r r′ same old p R w a s flat is =
     on-record old p w a s (doRule b r R) (doRule b r′ R) (ap (λ (x : Rec). doRule b x R) same) flat is

@@ -1,5 +1,5 @@
--- The records as they cross: the numbers of their fields, one behind the other, as words of the caller's memory. Assumes
--- nothing.
+-- The records as they cross: the numbers of their fields, one behind
+-- the other, as words of the caller's memory. Assumes nothing.
 use mathlib.Core.List.{List, [], _∷_, _++_}
 use Prim.Native.Nat.{ℕ}
 use lib.ListN.{getD}

@@ -1,4 +1,5 @@
-// The answers of the calls that change a list or a record. The caller's record is changed where it stands, and what is said beside it fits two registers.
+// The answers of the calls that change a list or a record. The caller's record
+// is changed where it stands, and what is said beside it fits two registers.
 // A refused call stores no word.
 use super::numbers::number_of;
 use super::records::RECORD;
@@ -17,7 +18,8 @@ ghost use Rattle.queue.specs.Pairs.{ofJoined, ofSplit};
 ghost use Rattle.replies.specs.InC.{said, answerInC, makeInC, pairInC};
 ghost use Rattle.replies.specs.Replies.{ofReply};
 
-// What such a call says: `refused` is the refusal number, or 0; `handed` is 1 where `number` was handed over, else both are 0.
+// What such a call says: `refused` is the refusal number, or 0;
+// `handed` is 1 where `number` was handed over, else both are 0.
 #[repr(C)]
 pub struct Reply {
     pub refused: u16,

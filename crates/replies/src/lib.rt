@@ -1,5 +1,5 @@
-// The answers of the calls as a caller from C or Rust gets them: his record, changed where it stands, and a flat struct of
-// plain numbers, in which every field is set; and a test as he asks for it.
+// The answers of the calls as a caller from C or Rust gets them: his record, changed where it stands,
+// and a flat struct of plain numbers, in which every field is set; and a test as he asks for it.
 mod changes; // changes.rt: calls that change a list or a record
 mod kinds; // kinds.rt: a test by its kind
 mod looks; // looks.rt: calls that only look

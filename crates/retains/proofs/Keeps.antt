@@ -21,7 +21,8 @@ module _ (f : ℕ → Bool) where
   unfolding leading those
   those-split [] = refl
   those-split (v ∷ l) =
-      by-test₂ (f v) (λ n m. m ≡ take n (v ∷ l) ++ those f (drop (suc n) (v ∷ l))) (λ t. ap (λ (m : List ℕ). v ∷ m) (those-split l)) (λ t. refl)
+      by-test₂ (f v) (λ n m. m ≡ take n (v ∷ l) ++ those f (drop (suc n) (v ∷ l)))
+      (λ t. ap (λ (m : List ℕ). v ∷ m) (those-split l)) (λ t. refl)
 
   pub behind-split : (l : List ℕ) → behind f l ≡ those f (drop (suc (leading f l)) l)
   unfolding leading behind those
@@ -32,21 +33,24 @@ module _ (f : ℕ → Bool) where
   pub those-append : (l m : List ℕ) → those f (l ++ m) ≡ those f l ++ those f m
   unfolding those
   those-append [] m = refl
-  those-append (v ∷ l) m = by-test₂ (f v) (λ n k. n ≡ k ++ those f m) (λ t. ap (λ (n : List ℕ). v ∷ n) (those-append l m)) (λ t. those-append l m)
+  those-append (v ∷ l) m = by-test₂ (f v) (λ n k. n ≡ k ++ those f m)
+      (λ t. ap (λ (n : List ℕ). v ∷ n) (those-append l m)) (λ t. those-append l m)
 
   -- the first rejected one stands in the first of two lists
   pub leading-stops : (l m : List ℕ) → leading f l < length l → leading f (l ++ m) ≡ leading f l
   unfolding leading
   leading-stops [] m lt = absurd (omega arith)
   leading-stops (v ∷ l) m lt =
-      by-test₂ (f v) (λ n k. k < suc (length l) → n ≡ k) (λ t h. ap suc (leading-stops l m (omega arith))) (λ t h. refl) lt
+      by-test₂ (f v) (λ n k. k < suc (length l) → n ≡ k) (λ t h. ap suc (leading-stops l m (omega arith))) (λ t h. refl)
+      lt
 
   -- the first list passes whole
   pub leading-passes : (l m : List ℕ) → length l ≤ leading f l → leading f (l ++ m) ≡ length l + leading f m
   unfolding leading
   leading-passes [] m le = omega arith
   leading-passes (v ∷ l) m le =
-      by-test₂ (f v) (λ n k. suc (length l) ≤ k → n ≡ suc (length l) + leading f m) (λ t h. omega (arith, leading-passes l m (omega arith))) (λ t h. absurd (omega arith)) le
+      by-test₂ (f v) (λ n k. suc (length l) ≤ k → n ≡ suc (length l) + leading f m)
+      (λ t h. omega (arith, leading-passes l m (omega arith))) (λ t h. absurd (omega arith)) le
 
 -- one element that passes, or does not, in front of a list
 module _ (f : ℕ → Bool) (x : ℕ) (l : List ℕ) where

@@ -23,7 +23,8 @@ use Rattle.rules.specs.Records.{Rec, held, stepped}
 use Rattle.rules.specs.Refusals.{onChange}
 use Rattle.rules.specs.Slots.{listOf, lay}
 
-module _ (b : List ℕ) (r : Rec) (first : onChange (length b) r 0 ≡ 0) (t : Test) (k : ℕ) (at-k : k ≡ leading (meets t) (listOf b (r .head) (r .len))) where
+module _ (b : List ℕ) (r : Rec) (first : onChange (length b) r 0 ≡ 0) (t : Test) (k : ℕ)
+    (at-k : k ≡ leading (meets t) (listOf b (r .head) (r .len))) where
   l : List ℕ
   l = listOf b (r .head) (r .len)
 
@@ -52,9 +53,11 @@ module _ (b : List ℕ) (r : Rec) (first : onChange (length b) r 0 ≡ 0) (t : T
     whole : those (meets t) l ≡ l
     whole = split ∙ ap (λ (m : List ℕ). take k l ++ m) past ∙ append-nil _ ∙ take-all k l (omega (arith, many))
 
-    pub retained-all : (record { refused = 0; moved = 0; state = shut r; handed = none }, b) ≡ told (doRule b r (retain t))
+    pub retained-all : (record { refused = 0; moved = 0; state = shut r; handed = none }, b)
+        ≡ told (doRule b r (retain t))
     unfolding retain held l
-    retained-all = accepts-same b r (retain t) first refl refl (ap length whole ∙ many) (ap length (later ∙ past)) refl whole
+    retained-all = accepts-same b r (retain t) first refl refl (ap length whole ∙ many) (ap length (later ∙ past)) refl
+        whole
 
   -- those that were kept behind the first rejected one were moved down
   module _ (some : k ≢ r .len) (p m : ℕ) (at-p : p ≡ place (length b) (r .head) k) where
@@ -68,26 +71,43 @@ module _ (b : List ℕ) (r : Rec) (first : onChange (length b) r 0 ≡ 0) (t : T
         let low : r .head < length b = omega (arith, kept-upto) in
         let one : suc k ≡ k + 1 = omega arith in
         let next : place (length b) (r .head) (k + 1) ≡ place (length b) p 1 =
-        sym (ap (λ (i : ℕ). place (length b) i 1) at-p ∙ place-place (length b) (r .head) low k 1 (omega (arith, kept-upto))) in
+        sym (ap (λ (i : ℕ). place (length b) i 1) at-p
+        ∙ place-place (length b) (r .head) low k 1 (omega (arith, kept-upto))) in
         ap (λ (j : ℕ). drop j l) one
         ∙ listOf-drop b (r .head) low (k + 1) (r .len) (omega (arith, kept-upto)) (g .fits)
         ∙ ap (λ (i : ℕ). listOf b i (r .len - (k + 1))) next
         ∙ ap (listOf b (place (length b) p 1)) (omega arith)
 
     pub retained-few : m ≡ length (those (meets t) rest) → k + m ≤ r .len
-    retained-few at-m = omega (arith, kept-upto, length-those (meets t) rest, length-listOf b (place (length b) p 1) (r .len - k - 1))
+    retained-few at-m = omega (
+      arith,
+      kept-upto,
+      length-those (meets t) rest,
+      length-listOf b (place (length b) p 1) (r .len - k - 1),
+    )
 
-    pub retained : (r′ : Rec) (b′ : List ℕ) → m ≡ length (those (meets t) rest) → b′ ≡ lay b p (those (meets t) rest) → r′ ≡ stepped r (r .head) (k + m)
+    pub retained : (r′ : Rec) (b′ : List ℕ) → m ≡ length (those (meets t) rest) → b′ ≡ lay b p (those (meets t) rest)
+        → r′ ≡ stepped r (r .head) (k + m)
         → (record { refused = 0; moved = m; state = shut r′; handed = none }, b′) ≡ told (doRule b r (retain t))
     unfolding retain held l
     retained r′ b′ at-m at-b′ made =
         let g = fine-change b r first .good in
         let low : r .head < length b = omega (arith, kept-upto) in
         let kept : those (meets t) l ≡ listOf b (r .head) k ++ those (meets t) rest =
-        split ∙ (λ i. listOf-take b (r .head) low k (r .len) kept-upto (g .fits) i ++ those (meets t) (behind-first i)) in
-        let long : k + m ≡ length (those (meets t) l) = omega (arith, at-m, ap length kept ∙ length-append (listOf b (r .head) k) (those (meets t) rest), length-listOf b (r .head) k) in
+        split ∙ (λ i. listOf-take b (r .head) low k (r .len) kept-upto (g .fits) i ++ those (meets t) (behind-first i))
+        in
+        let long : k + m ≡ length (those (meets t) l) =
+        omega (
+          arith,
+          at-m,
+          ap length kept
+              ∙ length-append (listOf b (r .head) k) (those (meets t) rest),
+          length-listOf b (r .head) k,
+        ) in
         let slots : b′ ≡ lay b (r .head) (those (meets t) l) =
         at-b′
         ∙ ap (λ (i : ℕ). lay b i (those (meets t) rest)) at-p
-        ∙ sym (ap (lay b (r .head)) kept ∙ write-behind (length b) b (r .head) k (those (meets t) rest) low (omega (arith, kept-upto, g .fits))) in
-        accepts b r (retain t) first refl m (r .head) (k + m) r′ none b′ made refl long (at-m ∙ sym (ap length (later ∙ ap (those (meets t)) behind-first))) refl slots
+        ∙ sym (ap (lay b (r .head)) kept
+        ∙ write-behind (length b) b (r .head) k (those (meets t) rest) low (omega (arith, kept-upto, g .fits))) in
+        accepts b r (retain t) first refl m (r .head) (k + m) r′ none b′ made refl long
+        (at-m ∙ sym (ap length (later ∙ ap (those (meets t)) behind-first))) refl slots

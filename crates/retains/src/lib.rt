@@ -1,5 +1,5 @@
-// `retain`: the elements that meet a test are moved down over those that do not. None is swapped, so a slot that holds no element after the call
-// keeps its old value.
+// `retain`: the elements that meet a test are moved down over those that do not. None
+// is swapped, so a slot that holds no element after the call keeps its old value.
 use conditions::Test;
 use places::WrappedIndex;
 use queue::Change;
@@ -18,7 +18,8 @@ ghost use Rattle.conditions.specs.Tests.{testOf};
 ghost use Rattle.queue.specs.Answers.{recOf, ofChange};
 ghost use Rattle.retains.specs.Leading.{leading};
 
-// How many elements are sifted at a time. A longer block is hardly faster, and its array, which each call clears, costs a short queue more.
+// How many elements are sifted at a time. A longer block is hardly faster,
+// and its array, which each call clears, costs a short queue more.
 const BLOCK: usize = 64;
 
 // How many elements of a part stand before the first rejected one; all of them where none is rejected.
@@ -36,8 +37,8 @@ fn leading_in(part: &[u32], test: Test) -> usize
     i
 }
 
-// Stage 1: how many elements stand before the first rejected one; `len` where none is rejected. The run from the first slot on is looked at where
-// the one up to the last slot passed whole.
+// Stage 1: how many elements stand before the first rejected one; `len` where none is rejected.
+// The run from the first slot on is looked at where the one up to the last slot passed whole.
 fn before_first_rejected(slots: &[u32], head: WrappedIndex, len: usize, test: Test) -> usize
     requires { ⌜ (head .0 ≤ length (now slots) - 1) × (len ≤ length (now slots)) ⌝ }
     ensures { λ r. ⌜ r ≡ leading (meets (testOf test)) (listOf (now (slots .entry)) (head .0) len) ⌝ }
@@ -57,7 +58,8 @@ fn before_first_rejected(slots: &[u32], head: WrappedIndex, len: usize, test: Te
     room + leading_in(&slots[0..rest], test)
 }
 
-// Stores the elements of a part that meet the test in the front of `held`, in order, and counts them. Each is stored and only the kept are counted:
+// Stores the elements of a part that meet the test in the front of `held`,
+// in order, and counts them. Each is stored and only the kept are counted:
 // so the loop has no branch that the test decides.
 fn sift(part: &[u32], test: Test, held: &mut [u32]) -> usize
     requires { ⌜ length (now part) ≤ length (now held) ⌝ }
@@ -77,7 +79,8 @@ fn sift(part: &[u32], test: Test, held: &mut [u32]) -> usize
     kept
 }
 
-// Stores those of the n elements from slot `from` on that meet the test from `into` on, and counts them. All are read before one is written.
+// Stores those of the n elements from slot `from` on that meet the test
+// from `into` on, and counts them. All are read before one is written.
 fn move_part(
     slots: &mut [u32],
     from: usize,
@@ -86,9 +89,12 @@ fn move_part(
     test: Test,
     held: &mut [u32],
 ) -> usize
-    requires { ⌜ (from + n ≤ length (now slots)) × (n ≤ length (now held)) × (into .0 < length (now slots)) × (length (now slots) ≤ mostSlots) ⌝ }
+    requires { ⌜ (from + n ≤ length (now slots)) × (n ≤ length (now held)) × (into .0 < length (now slots))
+        × (length (now slots) ≤ mostSlots) ⌝ }
     ensures { λ r. ⌜ r ≡ length (those (meets (testOf test)) (listOf (now (slots .entry)) from n)) ⌝ }
-    ensures { λ _. ⌜ now (slots .exit) ≡ lay (now (slots .entry)) (into .0) (those (meets (testOf test)) (listOf (now (slots .entry)) from n)) ⌝ }
+    ensures { λ _.
+        ⌜ now (slots .exit)
+        ≡ lay (now (slots .entry)) (into .0) (those (meets (testOf test)) (listOf (now (slots .entry)) from n)) ⌝ }
 {
     let end = from + n;
     let kept = sift(&slots[from..end], test, held);
@@ -113,12 +119,21 @@ fn least(a: usize, b: usize, c: usize) -> usize
     c
 }
 
-// Stage 2: of the `len` elements behind `to`, T, stores those that meet the test from there on, and counts them. It goes part by part, none of
-// which runs past the last slot. A part's kept are no more than its elements, so they never reach what is still to be read.
+// Stage 2: of the `len` elements behind `to`, T, stores those that meet the test from there
+// on, and counts them. It goes part by part, none of which runs past the last slot. A
+// part's kept are no more than its elements, so they never reach what is still to be read.
 fn move_kept(slots: &mut [u32], to: WrappedIndex, len: usize, test: Test) -> usize
     requires { ⌜ (to .0 < length (now slots)) × (len < length (now slots)) × (length (now slots) ≤ mostSlots) ⌝ }
-    ensures { λ r. ⌜ r ≡ length (those (meets (testOf test)) (listOf (now (slots .entry)) (place (length (now (slots .entry))) (to .0) 1) len)) ⌝ }
-    ensures { λ _. ⌜ now (slots .exit) ≡ lay (now (slots .entry)) (to .0) (those (meets (testOf test)) (listOf (now (slots .entry)) (place (length (now (slots .entry))) (to .0) 1) len)) ⌝ }
+    ensures { λ r.
+        ⌜ r
+        ≡ length
+        (those (meets (testOf test))
+        (listOf (now (slots .entry)) (place (length (now (slots .entry))) (to .0) 1) len)) ⌝ }
+    ensures { λ _.
+        ⌜ now (slots .exit)
+        ≡ lay (now (slots .entry)) (to .0)
+        (those (meets (testOf test))
+        (listOf (now (slots .entry)) (place (length (now (slots .entry))) (to .0) 1) len)) ⌝ }
 {
     // b and d are rejected, and b is the first: C and E move
     //
@@ -147,7 +162,8 @@ fn move_kept(slots: &mut [u32], to: WrappedIndex, len: usize, test: Test) -> usi
 
 // Keeps, in order, the elements that meet the test.
 pub fn retain(slots: &mut [u32], q: Deque, test: Test) -> Change
-    ensures { λ r. ⌜ (ofChange r, now (slots .exit)) ≡ told (doRule (now (slots .entry)) (recOf q) (retain (testOf test))) ⌝ }
+    ensures { λ r.
+        ⌜ (ofChange r, now (slots .exit)) ≡ told (doRule (now (slots .entry)) (recOf q) (retain (testOf test))) ⌝ }
 {
     let cap = slots.len();
     if let Checked::Refused(refusal) = queue::check_change(cap, q) {

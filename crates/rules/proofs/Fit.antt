@@ -27,7 +27,8 @@ pub stands-shut : (b : List ℕ) (r : Rec) → Good (length b) r → stands b (s
 unfolding stands whether
 stands-shut b r g = rw (record-true (length b) r g)
 
-pub stands-draining : (b : List ℕ) (d : Drain) → GoodDrain (length b) d → stands b (draining d) ≡ during (held b (asOpened d)) d
+pub stands-draining : (b : List ℕ) (d : Drain) → GoodDrain (length b) d
+    → stands b (draining d) ≡ during (held b (asOpened d)) d
 unfolding stands whether
 stands-draining b d g = rw (drain-true (length b) d g)
 
@@ -38,7 +39,8 @@ pub record Leaves (b : List ℕ) (r : Rec) (R : Rule) : Type 0 where
   pub long : length (after R (held b r)) ≡ recAfter b r R .len
 
 -- so that is the list that the queue then holds
-pub left-held : (b : List ℕ) (r : Rec) (R : Rule) → Leaves b r R → held (lay b (recAfter b r R .head) (after R (held b r))) (recAfter b r R) ≡ after R (held b r)
+pub left-held : (b : List ℕ) (r : Rec) (R : Rule) → Leaves b r R
+    → held (lay b (recAfter b r R .head) (after R (held b r))) (recAfter b r R) ≡ after R (held b r)
 left-held b r R L = laid b (recAfter b r R) (after R (held b r)) (L .good) (L .long)
 
 -- a call by a lawful rule
@@ -50,7 +52,9 @@ op-leaves b r R L e =
     let long : length (held b r) ≤ length b = rw n (q .0 .fits) in
     let own : R .own (length b) (length (held b r)) ≡ 0 = rw n (q .1) in
     record {
-      good = stepped-good (length b) r _ _ (q .0) (rw n at (L .good (length b) (r .head) (held b r) (q .0 .placed) long own)) (rw n at (L .fits (length b) (held b r) long own));
+      good = stepped-good (length b) r _ _ (q .0)
+          (rw n at (L .good (length b) (r .head) (held b r) (q .0 .placed) long own))
+          (rw n at (L .fits (length b) (held b r) long own));
       long = rw n at (L .long (length b) (held b r) own);
     }
 
@@ -58,6 +62,7 @@ op-leaves b r R L e =
 pub close-leaves : (b : List ℕ) (d : Drain) → GoodDrain (length b) d → Leaves b (asOpened d) (closeDrain d)
 unfolding recAfter stepped closeDrain
 close-leaves b d g = record {
-  good = stepped-good (length b) (asOpened d) _ _ (g .whole) (closed-placed (length b) d g) (omega (arith, g .whole .fits));
+  good = stepped-good (length b) (asOpened d) _ _ (g .whole) (closed-placed (length b) d g)
+      (omega (arith, g .whole .fits));
   long = kept-length (held b (asOpened d)) d (length-held b (asOpened d));
 }

@@ -32,7 +32,8 @@ use Rattle.rules.specs.Choices.{unless}
 pub record Keeps (b : List ℕ) (h : State) (o : Outcome) : Type 0 where
   pub slots : length (o .slots) ≡ length b
   pub fit : Fit (o .slots) (o .answer .state)
-  pub balance : (x : ℕ) → tally x (stands b h) + tally x (o .entered) ≡ tally x (stands (o .slots) (o .answer .state)) + tally x (o .left)
+  pub balance : (x : ℕ) → tally x (stands b h) + tally x (o .entered)
+      ≡ tally x (stands (o .slots) (o .answer .state)) + tally x (o .left)
 
 -- refused, or Nothing to do
 keeps-same : (b : List ℕ) (h : State) (n : ℕ) → Fit b h → Keeps b h (unchanged b h n)
@@ -43,7 +44,8 @@ keeps-same b h n f = record { slots = refl; fit = f; balance = λ x. refl }
 laid-fit : (b : List ℕ) (r : Rec) (l : List ℕ) → Good (length b) r → Fit (lay b (r .head) l) (shut r)
 laid-fit b r l g = fit-shut {r = r} (rw length-lay g)
 
-laid-stands : (b : List ℕ) (r : Rec) (l : List ℕ) → Good (length b) r → held (lay b (r .head) l) r ≡ l → stands (lay b (r .head) l) (shut r) ≡ l
+laid-stands : (b : List ℕ) (r : Rec) (l : List ℕ) → Good (length b) r → held (lay b (r .head) l) r ≡ l
+    → stands (lay b (r .head) l) (shut r) ≡ l
 laid-stands b r l g e = stands-shut (lay b (r .head) l) r (rw length-lay g) ∙ e
 
 -- ---- one queue
@@ -53,7 +55,8 @@ pub left-fit : (b : List ℕ) (r : Rec) (R : Rule) → Leaves b r R → Fit (acc
 unfolding accepted
 left-fit b r R L = laid-fit b (recAfter b r R) _ (L .good)
 
-pub left-stands : (b : List ℕ) (r : Rec) (R : Rule) → Leaves b r R → stands (accepted b r R .slots) (shut (recAfter b r R)) ≡ after R (held b r)
+pub left-stands : (b : List ℕ) (r : Rec) (R : Rule) → Leaves b r R
+    → stands (accepted b r R .slots) (shut (recAfter b r R)) ≡ after R (held b r)
 unfolding accepted
 left-stands b r R L = laid-stands b (recAfter b r R) _ (L .good) (left-held b r R L)
 
@@ -68,36 +71,49 @@ made-fit b l le = laid-fit b (newRec (length l)) l (new-good (length b) (length 
 
 pub made-stands : (b l : List ℕ) → length l ≤ length b → stands (lay b 0 l) (shut (newRec (length l))) ≡ l
 unfolding newRec
-made-stands b l le = let n = new-good (length b) (length l) le in laid-stands b (newRec (length l)) l n (laid b (newRec (length l)) l n refl)
+made-stands b l le = let n = new-good (length b) (length l) le in laid-stands b (newRec (length l)) l n
+    (laid b (newRec (length l)) l n refl)
 
 -- an accepted call, on the queue with the record r
 accepted-keeps : (b : List ℕ) (h : State) (r : Rec) (R : Rule) → Leaves b r R
-    → ((x : ℕ) → tally x (stands b h) + tally x (R .entered (held b r)) ≡ tally x (after R (held b r)) + tally x (R .left (held b r))) → Keeps b h (accepted b r R)
+    → ((x : ℕ) → tally x (stands b h) + tally x (R .entered (held b r))
+    ≡ tally x (after R (held b r)) + tally x (R .left (held b r))) → Keeps b h (accepted b r R)
 unfolding accepted
-accepted-keeps b h r R L e = record { slots = left-slots b r R; fit = left-fit b r R L; balance = λ x. rw (left-stands b r R L) (e x) }
+accepted-keeps b h r R L e = record {
+  slots = left-slots b r R;
+  fit = left-fit b r R L;
+  balance = λ x. rw (left-stands b r R L) (e x);
+}
 
 module _ (b : List ℕ) (r : Rec) (g : Good (length b) r) where
   op-accepted : (R : Rule) → Lawful R → refusal (length b) r R ≡ 0 → Keeps b (shut r) (accepted b r R)
   unfolding refusal
   op-accepted R L e =
       accepted-keeps b (shut r) r R (op-leaves b r R L e)
-      (λ x. rw (stands-shut b r g) (L .balance x (length b) (held b r) (rw length-held (change-ok (length b) r _ e .1))))
+      (λ x. rw (stands-shut b r g)
+      (L .balance x (length b) (held b r) (rw length-held (change-ok (length b) r _ e .1))))
 
   keeps-op : (R : Rule) → Lawful R → Keeps b (shut r) (doRule b r R)
   unfolding doRule
-  keeps-op R L = by-refusal (refusal (length b) r R) (Keeps b (shut r)) (op-accepted R L) (keeps-same b (shut r) _ (fit-shut g))
+  keeps-op R L = by-refusal (refusal (length b) r R) (Keeps b (shut r)) (op-accepted R L)
+      (keeps-same b (shut r) _ (fit-shut g))
 
   -- a call that makes a record over the list l: what stood has left
   made-keeps : (l : List ℕ) → length l ≤ length b → Keeps b (shut r) (doMake b (shut r) (madeWith b l))
   unfolding doMake madeWith madeOr unless
-  made-keeps l le = record { slots = length-lay b 0 l; fit = made-fit b l le; balance = λ x. rw (made-stands b l le) (omega arith) }
+  made-keeps l le = record {
+    slots = length-lay b 0 l;
+    fit = made-fit b l le;
+    balance = λ x. rw (made-stands b l le) (omega arith);
+  }
 
   -- and one that makes none
   unmade-keeps : (n : ℕ) → Keeps b (shut r) (doMake b (shut r) (noneMade b (suc n)))
   unfolding doMake noneMade madeOr unless
   unmade-keeps n = record { slots = refl; fit = fit-shut g; balance = λ x. refl }
 
-  made-or-not : (n : ℕ) (l : List ℕ) → (n ≡ 0 → length l ≤ length b) → Keeps b (shut r) (doMake b (shut r) (unless n (madeWith b l) (noneMade b n)))
+  made-or-not : (n : ℕ) (l : List ℕ) → (n ≡ 0 → length l ≤ length b)
+      → Keeps b (shut r) (doMake b (shut r) (unless n (madeWith b l) (noneMade b n)))
   unfolding unless
   made-or-not zero l le = made-keeps l (le refl)
   made-or-not (suc n) l le = unmade-keeps n
@@ -118,12 +134,18 @@ module _ (b : List ℕ) (r : Rec) (g : Good (length b) r) where
       record {
         slots = refl;
         fit = fit-draining (opening-few (length b) r s e z) d;
-        balance = λ x. rw (stands-shut b r g, stands-draining b (opened r s e) d, open-same (length b) r s e z, open-balance x r s e (held b r));
+        balance = λ x. rw (
+          stands-shut b r g,
+          stands-draining b (opened r s e) d,
+          open-same (length b) r s e z,
+          open-balance x r s e (held b r),
+        );
       }
 
   keeps-open : (s e : ℕ) → Keeps b (shut r) (doOpen b r s e)
   unfolding doOpen
-  keeps-open s e = by-refusal (onTaking (length b) r s e) (Keeps b (shut r)) (open-keeps s e) (keeps-same b (shut r) _ (fit-shut g))
+  keeps-open s e = by-refusal (onTaking (length b) r s e) (Keeps b (shut r)) (open-keeps s e)
+      (keeps-same b (shut r) _ (fit-shut g))
 
   -- each change of a queue
   pub keeps-change : (k : QueueChange) → Keeps b (shut r) (doOnQueue b r k)
@@ -136,10 +158,15 @@ module _ (b : List ℕ) (r : Rec) (g : Good (length b) r) where
 module _ (b : List ℕ) (d : Drain) (few : length b ≤ mostSlots) (g : GoodDrain (length b) d) where
   -- the drain, now d′, has handed v over
   hand-keeps : (d′ : Drain) (v : ℕ) → GoodDrain (length b) d′ → asOpened d′ ≡ asOpened d
-      → ((x : ℕ) → tally x (during (held b (asOpened d)) d) ≡ tally x (during (held b (asOpened d)) d′) + tally x (v ∷ [])) → Keeps b (draining d) (handsOver b d′ v)
+      → ((x : ℕ) → tally x (during (held b (asOpened d)) d)
+      ≡ tally x (during (held b (asOpened d)) d′) + tally x (v ∷ [])) → Keeps b (draining d) (handsOver b d′ v)
   unfolding handsOver asList
   hand-keeps d′ v g′ w e =
-      record { slots = refl; fit = fit-draining few g′; balance = λ x. rw (stands-draining b d g, stands-draining b d′ g′, w) (omega (arith, e x, tally-nil x)) }
+      record {
+        slots = refl;
+        fit = fit-draining few g′;
+        balance = λ x. rw (stands-draining b d g, stands-draining b d′ g′, w) (omega (arith, e x, tally-nil x));
+      }
 
   next-keeps : (n : ℕ) → d .remaining ≡ n → Keeps b (draining d) (nextOf b d n)
   unfolding nextOf
@@ -162,8 +189,10 @@ module _ (b : List ℕ) (d : Drain) (few : length b ≤ mostSlots) (g : GoodDrai
       (λ x. rw (stands-draining b d g) (omega (arith, close-balance x (held b (asOpened d)) d, tally-nil x)))
 
   -- refused, or as the drain's record says
-  keeps-drain : (o : Outcome) → Keeps b (draining d) o → Keeps b (draining d) (unless (onDrain (length b) d) o (unchanged b (draining d) (onDrain (length b) d)))
-  keeps-drain o k = by-refusal (onDrain (length b) d) (Keeps b (draining d)) (λ e. k) (keeps-same b (draining d) _ (fit-draining few g))
+  keeps-drain : (o : Outcome) → Keeps b (draining d) o
+      → Keeps b (draining d) (unless (onDrain (length b) d) o (unchanged b (draining d) (onDrain (length b) d)))
+  keeps-drain o k = by-refusal (onDrain (length b) d) (Keeps b (draining d)) (λ e. k)
+      (keeps-same b (draining d) _ (fit-draining few g))
 
 -- each call of an open drain
 pub keeps-drained : (b : List ℕ) (d : Drain) → length b ≤ mostSlots → GoodDrain (length b) d → (k : DrainCall)

@@ -32,8 +32,10 @@ pub record Keeps2 (p q : Queue) (s : CallStep) : Type 0 where
   pub slots-b : length (s .queues .b .slots) ≡ length (q .slots)
   pub fit-a : Fit (s .queues .a .slots) (s .queues .a .state)
   pub fit-b : Fit (s .queues .b .slots) (s .queues .b .state)
-  pub balance : (x : ℕ) → tally x (stands (p .slots) (p .state)) + tally x (stands (q .slots) (q .state)) + tally x (s .entered)
-      ≡ tally x (stands (s .queues .a .slots) (s .queues .a .state)) + tally x (stands (s .queues .b .slots) (s .queues .b .state)) + tally x (s .left)
+  pub balance : (x : ℕ) → tally x (stands (p .slots) (p .state)) + tally x (stands (q .slots) (q .state))
+      + tally x (s .entered)
+      ≡ tally x (stands (s .queues .a .slots) (s .queues .a .state))
+      + tally x (stands (s .queues .b .slots) (s .queues .b .state)) + tally x (s .left)
 
 -- passed over, or a look
 keeps-still : (p q : Queue) (n : ℕ) (s : Option Sight) → Fit (p .slots) (p .state) → Fit (q .slots) (q .state)
@@ -76,12 +78,19 @@ made-none h = refl
 module _ (b : List ℕ) (r : Rec) (g : Good (length b) r) (b′ : List ℕ) (r′ : Rec) (g′ : Good (length b′) r′) where
   -- refused with n
   refused-keeps : (n : ℕ) (o : Option Rec) (gone : List ℕ) → n ≢ 0 → madeOr (shut r′) o ≡ shut r′
-      → Keeps2 (queueOf b (shut r)) (queueOf b′ (shut r′)) (bothStep (shut r′) (record { answer = record { refused = n; moved = 0; rec = r; other = o }; slots = b; slots′ = b′ }) gone)
+      → Keeps2 (queueOf b (shut r)) (queueOf b′ (shut r′))
+      (bothStep (shut r′) (record {
+        answer = record { refused = n; moved = 0; rec = r; other = o };
+        slots = b;
+        slots′ = b′;
+      }) gone)
   unfolding bothStep
   refused-keeps n o gone ne same =
-      rw (same, unless-stop n gone [] ne) (record { slots-a = refl; slots-b = refl; fit-a = fit-shut g; fit-b = fit-shut g′; balance = λ x. refl })
+      rw (same, unless-stop n gone [] ne)
+      (record { slots-a = refl; slots-b = refl; fit-a = fit-shut g; fit-b = fit-shut g′; balance = λ x. refl })
 
-  append-done : onAppending (length b) r (length b′) r′ ≡ 0 → Keeps2 (queueOf b (shut r)) (queueOf b′ (shut r′)) (bothStep (shut r′) (appended b r b′ r′) [])
+  append-done : onAppending (length b) r (length b′) r′ ≡ 0
+      → Keeps2 (queueOf b (shut r)) (queueOf b′ (shut r′)) (bothStep (shut r′) (appended b r b′ r′) [])
   unfolding bothStep appended crossing madeOr unless extendWith clear
   append-done z =
       let o = append-leaves b r b′ r′ z in
@@ -91,18 +100,27 @@ module _ (b : List ℕ) (r : Rec) (g : Good (length b) r) (b′ : List ℕ) (r�
         fit-a = left-fit b r _ (o .0);
         fit-b = left-fit b′ r′ _ (o .1);
         balance = λ x.
-            rw (stands-shut b r g, stands-shut b′ r′ g′, left-stands b r _ (o .0), left-stands b′ r′ _ (o .1), map-brought, tally-append)
+            rw (
+              stands-shut b r g,
+              stands-shut b′ r′ g′,
+              left-stands b r _ (o .0),
+              left-stands b′ r′ _ (o .1),
+              map-brought,
+              tally-append,
+            )
             (omega (arith, tally-nil x));
       }
 
   keeps-append : Keeps2 (queueOf b (shut r)) (queueOf b′ (shut r′)) (bothStep (shut r′) (doAppend b r b′ r′) [])
   unfolding doAppend
   keeps-append =
-      by-either (onAppending (length b) r (length b′) r′) (λ m. Keeps2 (queueOf b (shut r)) (queueOf b′ (shut r′)) (bothStep (shut r′) m [])) append-done
+      by-either (onAppending (length b) r (length b′) r′)
+      (λ m. Keeps2 (queueOf b (shut r)) (queueOf b′ (shut r′)) (bothStep (shut r′) m [])) append-done
       (λ ne. refused-keeps _ (some r′) [] ne (made-some (shut r′) r′))
 
   split-done : (at : ℕ) → onSplitting (length b) r (length b′) at ≡ 0
-      → Keeps2 (queueOf b (shut r)) (queueOf b′ (shut r′)) (bothStep (shut r′) (splitted b r b′ at) (stands b′ (shut r′)))
+      → Keeps2 (queueOf b (shut r)) (queueOf b′ (shut r′))
+      (bothStep (shut r′) (splitted b r b′ at) (stands b′ (shut r′)))
   unfolding bothStep splitted crossing madeWith madeOr unless truncate
   split-done at z =
       let o = split-leaves b r (length b′) at z in
@@ -111,13 +129,17 @@ module _ (b : List ℕ) (r : Rec) (g : Good (length b) r) (b′ : List ℕ) (r�
         slots-b = length-lay b′ _ _;
         fit-a = left-fit b r _ (o .0);
         fit-b = made-fit b′ _ (o .1);
-        balance = λ x. rw (stands-shut b r g, left-stands b r _ (o .0), made-stands b′ _ (o .1)) (omega (arith, tally-split x at (held b r), tally-nil x));
+        balance = λ x. rw (stands-shut b r g, left-stands b r _ (o .0), made-stands b′ _ (o .1))
+            (omega (arith, tally-split x at (held b r), tally-nil x));
       }
 
-  keeps-split : (at : ℕ) → Keeps2 (queueOf b (shut r)) (queueOf b′ (shut r′)) (bothStep (shut r′) (doSplit b r b′ at) (stands b′ (shut r′)))
+  keeps-split : (at : ℕ) → Keeps2 (queueOf b (shut r)) (queueOf b′ (shut r′))
+      (bothStep (shut r′) (doSplit b r b′ at) (stands b′ (shut r′)))
   unfolding doSplit
   keeps-split at =
-      by-either (onSplitting (length b) r (length b′) at) (λ m. Keeps2 (queueOf b (shut r)) (queueOf b′ (shut r′)) (bothStep (shut r′) m (stands b′ (shut r′)))) (split-done at)
+      by-either (onSplitting (length b) r (length b′) at)
+      (λ m. Keeps2 (queueOf b (shut r)) (queueOf b′ (shut r′)) (bothStep (shut r′) m (stands b′ (shut r′))))
+      (split-done at)
       (λ ne. refused-keeps _ none _ ne (made-none (shut r′)))
 
   -- each call on both
@@ -129,7 +151,8 @@ module _ (b : List ℕ) (r : Rec) (g : Good (length b) r) (b′ : List ℕ) (r�
   keeps-pair (comparing a) = keeps-look _ _ _ (fit-shut g) (fit-shut g′)
 
 -- each call on the first queue, of its drain, and on both
-pub keeps-first : (p q : Queue) → Fit (p .slots) (p .state) → Fit (q .slots) (q .state) → (k : Call) → Keeps2 p q (firstStep p q k)
+pub keeps-first : (p q : Queue) → Fit (p .slots) (p .state) → Fit (q .slots) (q .state) → (k : Call)
+    → Keeps2 p q (firstStep p q k)
 unfolding firstStep takenStep
 keeps-first p q f f′ k =
     by-taken f f′ k
@@ -139,20 +162,29 @@ keeps-first p q f f′ k =
     (λ d few g c. keeps-other (p .slots) (draining d) q _ f′ (keeps-drained (p .slots) d few g c))
     (λ r r′ g g′ c. keeps-pair (p .slots) r g (q .slots) r′ g′ c)
 
-keeps-a : (s : Pair) → Fit (s .a .slots) (s .a .state) → Fit (s .b .slots) (s .b .state) → (k : Call) → Keeps2 (s .a) (s .b) (step s (record { side = sideA; call = k }))
+keeps-a : (s : Pair) → Fit (s .a .slots) (s .a .state) → Fit (s .b .slots) (s .b .state) → (k : Call)
+    → Keeps2 (s .a) (s .b) (step s (record { side = sideA; call = k }))
 unfolding step facing
 keeps-a s f f′ k =
     let o = keeps-first (s .a) (s .b) f f′ k in
     record { slots-a = o .slots-a; slots-b = o .slots-b; fit-a = o .fit-a; fit-b = o .fit-b; balance = o .balance }
 
-keeps-b : (s : Pair) → Fit (s .a .slots) (s .a .state) → Fit (s .b .slots) (s .b .state) → (k : Call) → Keeps2 (s .a) (s .b) (step s (record { side = sideB; call = k }))
+keeps-b : (s : Pair) → Fit (s .a .slots) (s .a .state) → Fit (s .b .slots) (s .b .state) → (k : Call)
+    → Keeps2 (s .a) (s .b) (step s (record { side = sideB; call = k }))
 unfolding step facing
 keeps-b s f f′ k =
     let o = keeps-first (s .b) (s .a) f′ f k in
-    record { slots-a = o .slots-b; slots-b = o .slots-a; fit-a = o .fit-b; fit-b = o .fit-a; balance = λ x. omega (arith, o .balance x) }
+    record {
+      slots-a = o .slots-b;
+      slots-b = o .slots-a;
+      fit-a = o .fit-b;
+      fit-b = o .fit-a;
+      balance = λ x. omega (arith, o .balance x);
+    }
 
 -- each call on either queue
-pub keeps : (s : Pair) → Fit (s .a .slots) (s .a .state) → Fit (s .b .slots) (s .b .state) → (t : Turn) → Keeps2 (s .a) (s .b) (step s t)
+pub keeps : (s : Pair) → Fit (s .a .slots) (s .a .state) → Fit (s .b .slots) (s .b .state) → (t : Turn)
+    → Keeps2 (s .a) (s .b) (step s t)
 keeps s f f′ t = by-side (t .side) (t .call)
   where
     by-side : (d : Side) (k : Call) → Keeps2 (s .a) (s .b) (step s (record { side = d; call = k }))

@@ -16,6 +16,7 @@ module _ (b : List ℕ) where
   unfolding fresh onSlots ask unless noneMade
   fresh-refused lt = rw (lt-leb (length b) mostSlots lt)
 
-  pub fresh-made : (r : Rec) → length b ≤ mostSlots → r ≡ newRec 0 → (record { refused = 0; moved = 0; made = some r }, b) ≡ toldMake (fresh b)
+  pub fresh-made : (r : Rec) → length b ≤ mostSlots → r ≡ newRec 0
+      → (record { refused = 0; moved = 0; made = some r }, b) ≡ toldMake (fresh b)
   unfolding fresh onSlots ask unless madeWith
   fresh-made r le made = rw (le-leb (length b) mostSlots le, made, lay-none b 0)

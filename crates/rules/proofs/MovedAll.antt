@@ -57,7 +57,8 @@ moved-true (splice! s e vs) = splice-moved s e vs
 
 module _ (s : Side) (b : List ℕ) where
   -- while a drain is open, in any of its states
-  during-stands : (h n : ℕ) → h ≤ length b - 1 → n ≤ length b → (d : Drain) → strays s (during (marksFrom s (length b) b h n) d) (during (placesFrom (length b) h n) d) ≡ 0
+  during-stands : (h n : ℕ) → h ≤ length b - 1 → n ≤ length b → (d : Drain)
+      → strays s (during (marksFrom s (length b) b h n) d) (during (placesFrom (length b) h n) d) ≡ 0
   unfolding during handable
   during-stands h n good fits d =
       let w = marksFrom s (length b) b h n in
@@ -66,12 +67,15 @@ module _ (s : Side) (b : List ℕ) where
       let none = sym (same-moved s b h n good fits) in
       let x = d .start + d .drained in
       let a : length (take (d .start) w) ≡ length (take (d .start) ps) = simp length-take (omega arith) in
-      let c : length (take (d .remaining) (drop (d .idx) w)) ≡ length (take (d .remaining) (drop (d .idx) ps)) = simp (length-take, length-drop) (omega arith) in
+      let c : length (take (d .remaining) (drop (d .idx) w)) ≡ length (take (d .remaining) (drop (d .idx) ps)) =
+      simp (length-take, length-drop) (omega arith) in
       let e : length (drop (d .idx) w) ≡ length (drop (d .idx) ps) = simp length-drop (omega arith) in
       omega (
         arith,
-        strays-append s (take (d .start) w) (take (d .remaining) (drop (d .idx) w) ++ drop x w) (take (d .start) ps) (take (d .remaining) (drop (d .idx) ps) ++ drop x ps) a,
-        strays-append s (take (d .remaining) (drop (d .idx) w)) (drop x w) (take (d .remaining) (drop (d .idx) ps)) (drop x ps) c,
+        strays-append s (take (d .start) w) (take (d .remaining) (drop (d .idx) w) ++ drop x w) (take (d .start) ps)
+            (take (d .remaining) (drop (d .idx) ps) ++ drop x ps) a,
+        strays-append s (take (d .remaining) (drop (d .idx) w)) (drop x w) (take (d .remaining) (drop (d .idx) ps))
+            (drop x ps) c,
         none-taken s (d .start) w ps long none,
         none-taken s (d .remaining) (drop (d .idx) w) (drop (d .idx) ps) e (none-dropped s (d .idx) w ps long none),
         none-dropped s x w ps long none,
@@ -98,14 +102,19 @@ accepted-counted s b r R m = rw length-lay m
 during-all : (r : Rec) (x e : ℕ) (l : List ℕ) → x ≤ e → e ≤ length l → during l (opened r x e) ≡ l
 unfolding during handable opened
 during-all r x e l le le′ =
-    rw (← drop-drop (e - x) x l) (ap (λ (m : List ℕ). take x l ++ m) (take-append-drop (e - x) (drop x l)) ∙ take-append-drop x l)
+    rw (← drop-drop (e - x) x l) (ap (λ (m : List ℕ). take x l ++ m) (take-append-drop (e - x) (drop x l))
+    ∙ take-append-drop x l)
 
 opened-counted : (s : Side) (b : List ℕ) (r : Rec) → Good (length b) r → (x e : ℕ) → onTaking (length b) r x e ≡ 0
     → Counted s (marksOf s b (shut r)) (unchanged b (draining (opened r x e)) 0)
 unfolding unchanged marksOf placesOf opened during
 opened-counted s b r g x e z =
     let o = opening-range (length b) r x e z in
-    rw (ap (λ (k : Rec). k .len) (open-same (length b) r x e z), during-all r x e (placesFrom (length b) (r .head) (r .len)) (o .0) (rw length-places (o .1))) (same-moved s b (r .head) (r .len) (g .placed) (g .fits))
+    rw (
+      ap (λ (k : Rec). k .len) (open-same (length b) r x e z),
+      during-all r x e (placesFrom (length b) (r .head) (r .len)) (o .0) (rw length-places (o .1)),
+    )
+    (same-moved s b (r .head) (r .len) (g .placed) (g .fits))
 
 module _ (s : Side) (b : List ℕ) where
   -- nothing was done
@@ -162,11 +171,13 @@ module _ (s : Side) (b : List ℕ) where
     change-counted (opening x e) z = opening-counted x e z
 
 -- what handing over leaves of a drain's record
-front-none : (d : Drain) → d .remaining ≡ 0 → (fromFront d .remaining ≡ 0) × (fromFront d .start ≡ d .start) × (fromFront d .drained ≡ d .drained)
+front-none : (d : Drain) → d .remaining ≡ 0
+    → (fromFront d .remaining ≡ 0) × (fromFront d .start ≡ d .start) × (fromFront d .drained ≡ d .drained)
 unfolding fromFront
 front-none d z = (omega arith, refl, refl)
 
-back-none : (d : Drain) → d .remaining ≡ 0 → (fromBack d .remaining ≡ 0) × (fromBack d .start ≡ d .start) × (fromBack d .drained ≡ d .drained)
+back-none : (d : Drain) → d .remaining ≡ 0
+    → (fromBack d .remaining ≡ 0) × (fromBack d .start ≡ d .start) × (fromBack d .drained ≡ d .drained)
 unfolding fromBack
 back-none d z = (omega arith, refl, refl)
 
@@ -190,7 +201,8 @@ module _ (s : Side) (b : List ℕ) (d : Drain) (few : length b ≤ mostSlots) (g
       → (d′ .remaining ≡ 0) × (d′ .start ≡ d .start) × (d′ .drained ≡ d .drained)
       → Counted s (during (marksOf s b (draining d)) d′) (unchanged b (draining d) 0)
   unfolding standing
-  none-counted d′ z same = rw (none-remains d′ z same (marksOf s b (draining d))) (same-counted s b (fit-draining few g))
+  none-counted d′ z same = rw (none-remains d′ z same (marksOf s b (draining d)))
+      (same-counted s b (fit-draining few g))
 
   next-counted : (n : ℕ) → d .remaining ≡ n → Counted s (during (marksOf s b (draining d)) (fromFront d)) (nextOf b d n)
   unfolding nextOf

@@ -31,10 +31,12 @@ use Rattle.rules.specs.Choices.{unless}
 
 -- every element that stood in the other queue has moved
 module _ (d d′ : Side) (cross : (s p : ℕ) → elsewhere d (slotOf d′ s) p ≡ 1) where
-  crossed : (c : ℕ) (b : List ℕ) (h n : ℕ) (ps : List ℕ) → h ≤ c - 1 → n ≤ c → length ps ≡ n → strays d (marksFrom d′ c b h n) ps ≡ n
+  crossed : (c : ℕ) (b : List ℕ) (h n : ℕ) (ps : List ℕ) → h ≤ c - 1 → n ≤ c → length ps ≡ n
+      → strays d (marksFrom d′ c b h n) ps ≡ n
   crossed c b h n ps good fits e =
       strays-crossed d (marksFrom d′ c b h n) ps (length-marks d′ c b h n ∙ sym e)
-      (λ i x lt p. let lt′ : i < n = omega (arith, length-marks d′ c b h n) in rw (origin-at d′ c b h n i x (omega arith) fits lt′) (cross _ p))
+      (λ i x lt p. let lt′ : i < n = omega (arith, length-marks d′ c b h n) in rw
+      (origin-at d′ c b h n i x (omega arith) fits lt′) (cross _ p))
       ∙ length-marks d′ c b h n
 
 b-in-a : (s p : ℕ) → elsewhere sideA (slotOf sideB s) p ≡ 1
@@ -48,7 +50,8 @@ a-in-b s p = refl
 -- what a step's moved count should be, where m stands after it
 abbrev pub CountedBoth : Marks → CallStep → Type 0
 CountedBoth m o =
-    o .moved ≡ strays sideA (m .ours) (placesOf (length (o .queues .a .slots)) (o .queues .a .state)) + strays sideB (m .theirs) (placesOf (length (o .queues .b .slots)) (o .queues .b .state))
+    o .moved ≡ strays sideA (m .ours) (placesOf (length (o .queues .a .slots)) (o .queues .a .state))
+    + strays sideB (m .theirs) (placesOf (length (o .queues .b .slots)) (o .queues .b .state))
 
 -- what stands in a queue before a call, marked
 abbrev before : Side → Queue → List Marked
@@ -71,8 +74,10 @@ queue-counted b r q g f′ (changing k) z =
 queue-counted b r q g f′ (asking a) z = still-counted (queueOf b (shut r)) q _ _ (fit-shut g) f′
 
 -- ours stay, and theirs come behind
-joined : (b : List ℕ) (h n : ℕ) (b′ : List ℕ) (h′ n′ : ℕ) → h ≤ length b - 1 → n + n′ ≤ length b → h′ ≤ length b′ - 1 → n′ ≤ length b′
-    → n′ ≡ strays sideA (marksFrom sideA (length b) b h n ++ marksFrom sideB (length b′) b′ h′ n′) (placesFrom (length b) h (n + n′))
+joined : (b : List ℕ) (h n : ℕ) (b′ : List ℕ) (h′ n′ : ℕ) → h ≤ length b - 1 → n + n′ ≤ length b → h′ ≤ length b′ - 1
+    → n′ ≤ length b′
+    → n′ ≡ strays sideA (marksFrom sideA (length b) b h n ++ marksFrom sideB (length b′) b′ h′ n′)
+    (placesFrom (length b) h (n + n′))
 joined b h n b′ h′ n′ good fits good′ fits′ =
     let c = length b in
     let w = marksFrom sideA c b h n in
@@ -84,7 +89,8 @@ joined b h n b′ h′ n′ good fits good′ fits′ =
       arith,
       strays-append sideA w w′ (placesFrom c h n) (placesFrom c (place c h n) n′) front,
       same-moved sideA b h n good (omega arith),
-      crossed sideA sideB b-in-a (length b′) b′ h′ n′ (placesFrom c (place c h n) n′) good′ fits′ (length-places c (place c h n) n′),
+      crossed sideA sideB b-in-a (length b′) b′ h′ n′ (placesFrom c (place c h n) n′) good′ fits′
+          (length-places c (place c h n) n′),
     )))
     (λ ge. let z : n ≡ 0 = omega arith in
     let z′ : n′ ≡ 0 = omega arith in
@@ -92,18 +98,28 @@ joined b h n b′ h′ n′ good fits good′ fits′ =
     (lt-or-ge 0 (n + n′))
 
 -- the later ones of ours have gone to the other queue
-parted : (b : List ℕ) (h n i c′ : ℕ) → h ≤ length b - 1 → n ≤ length b → i ≤ n → n - i ≡ strays sideB (drop i (marksFrom sideA (length b) b h n)) (placesFrom c′ 0 (n - i))
+parted : (b : List ℕ) (h n i c′ : ℕ) → h ≤ length b - 1 → n ≤ length b → i ≤ n
+    → n - i ≡ strays sideB (drop i (marksFrom sideA (length b) b h n)) (placesFrom c′ 0 (n - i))
 parted b h n i c′ good fits le =
     let c = length b in
     ⊎-elim
     (λ lt. rw (marks-drop sideA c b h (omega arith) i n le fits)
-    (sym (crossed sideB sideA a-in-b c b (place c h i) (n - i) (placesFrom c′ 0 (n - i)) (place-good c h good i (omega arith)) (omega arith) (length-places c′ 0 (n - i)))))
+    (sym (crossed sideB sideA a-in-b c b (place c h i) (n - i) (placesFrom c′ 0 (n - i))
+    (place-good c h good i (omega arith)) (omega arith) (length-places c′ 0 (n - i)))))
     (λ ge. let z : n - i ≡ 0 = omega arith in
-    rw (z, drop-of-length-le (marksFrom sideA c b h n) {i = i} (omega (arith, length-marks sideA c b h n)), strays-none))
+    rw (
+      z,
+      drop-of-length-le (marksFrom sideA c b h n) {i = i} (omega (arith, length-marks sideA c b h n)),
+      strays-none,
+    ))
     (lt-or-ge i n)
 
 step-refused : (b : List ℕ) (r : Rec) (b′ : List ℕ) (r′ : Rec) (n : ℕ) (x : Option Rec) (gone : List ℕ)
-    → bothStep (shut r′) (record { answer = record { refused = n; moved = 0; rec = r; other = x }; slots = b; slots′ = b′ }) gone .refused ≡ n
+    → bothStep (shut r′) (record {
+      answer = record { refused = n; moved = 0; rec = r; other = x };
+      slots = b;
+      slots′ = b′;
+    }) gone .refused ≡ n
 unfolding bothStep
 step-refused b r b′ r′ n x gone = refl
 
@@ -114,7 +130,12 @@ module _ (b : List ℕ) (r : Rec) (b′ : List ℕ) (r′ : Rec) where
   unfolding bothStep appended crossing accepted recAfter extendWith clear stepped madeOr marksOf placesOf
   append-counted z =
       let o = append-ok (length b) r (length b′) r′ z in
-      rw (length-lay, length-held, strays-none) (omega (arith, joined b (r .head) (r .len) b′ (r′ .head) (r′ .len) (o .0 .placed) (o .2) (o .1 .placed) (o .1 .fits)))
+      rw (length-lay, length-held, strays-none)
+      (omega (
+        arith,
+        joined b (r .head) (r .len) b′ (r′ .head) (r′ .len) (o .0 .placed) (o .2) (o .1 .placed)
+            (o .1 .fits),
+      ))
 
   split-counted : (i : ℕ) → onSplitting (length b) r (length b′) i ≡ 0
       → CountedBoth (marksBoth (take i (marksOf sideA b (shut r))) (drop i (marksOf sideA b (shut r))))
@@ -132,7 +153,11 @@ module _ (b : List ℕ) (r : Rec) (b′ : List ℕ) (r′ : Rec) where
 
   -- an accepted call, of the two outcomes that it may have
   both-counted : (w : Marks) (n : ℕ) (x : Option Rec) (m : PairOutcome) (gone : List ℕ)
-      → let no : PairOutcome = record { answer = record { refused = n; moved = 0; rec = r; other = x }; slots = b; slots′ = b′ } in
+      → let no : PairOutcome = record {
+        answer = record { refused = n; moved = 0; rec = r; other = x };
+        slots = b;
+        slots′ = b′;
+      } in
       bothStep (shut r′) (unless n m no) gone .refused ≡ 0 → (n ≡ 0 → CountedBoth w (bothStep (shut r′) m gone))
       → CountedBoth w (bothStep (shut r′) (unless n m no) gone)
   both-counted w n x m gone z f =
@@ -156,7 +181,8 @@ module _ (b : List ℕ) (r : Rec) (b′ : List ℕ) (r′ : Rec) where
 -- each call on the first queue, of its drain, and on both
 pub first-counted : (p q : Queue) → Fit (p .slots) (p .state) → Fit (q .slots) (q .state) → (k : Call)
     → firstStep p q k .refused ≡ 0
-    → let m = bothAfter (p .state) (q .state) k (marksOf sideA (p .slots) (p .state)) (marksOf sideB (q .slots) (q .state)) in
+    → let m = bothAfter (p .state) (q .state) k (marksOf sideA (p .slots) (p .state))
+    (marksOf sideB (q .slots) (q .state)) in
     CountedBoth m (firstStep p q k)
 unfolding firstStep takenStep bothAfter takenAfter oneStep
 first-counted p q f f′ k =

@@ -25,14 +25,16 @@ unfolding refusal recAfter stepped extendWith
 extend-moved vs d b r e =
     let q = change-ok (length b) r _ e in
     behind-moved d b (r .head) (r .len) (q .0 .placed) (q .0 .fits) _ (r .len + length vs) (r .len) vs
-    (cut-behind _ (r .len) (length-marks d (length b) b (r .head) (r .len)) (map (marked .brought) vs)) (omega arith) refl (room-ok (length b) (r .len + length vs) (q .1))
+    (cut-behind _ (r .len) (length-marks d (length b) b (r .head) (r .len)) (map (marked .brought) vs)) (omega arith)
+    refl (room-ok (length b) (r .len + length vs) (q .1))
 
 pub prepend-moved : (vs : List ℕ) → MovedTrue (prepend vs)
 unfolding refusal recAfter stepped prepend
 prepend-moved vs d b r e =
     let q = change-ok (length b) r _ e in
     let room = room-ok (length b) (r .len + length vs) (q .1) in
-    front-moved d b (r .head) (r .len) (q .0 .placed) (q .0 .fits) _ (stepBack (length b) (r .head) (length vs)) (r .len + length vs) 0 vs refl
+    front-moved d b (r .head) (r .len) (q .0 .placed) (q .0 .fits) _ (stepBack (length b) (r .head) (length vs))
+    (r .len + length vs) 0 vs refl
     (stepBack-good (length b) (r .head) (q .0 .placed) (length vs)) (omega arith) (omega arith) room
     (λ k. place-zero (length b) (r .head) k ∙ sym (step-back-on (length b) (r .head) k (length vs) (omega arith)))
 
@@ -52,7 +54,8 @@ resize-moved m v d b r e =
     let long = length-marks d (length b) b (r .head) (r .len) in
     rw (long, map-replicate, take-most w (r .len) long m)
     (behind-moved d b (r .head) (r .len) (q .0 .placed) (q .0 .fits) _ m (min m (r .len)) (replicate (m - r .len) v)
-    (cut-first w (r .len) long (min m (r .len)) (map (marked .brought) (replicate (m - r .len) v))) (omega arith) (rw length-replicate (omega arith)) (room-ok (length b) m (q .1)))
+    (cut-first w (r .len) long (min m (r .len)) (map (marked .brought) (replicate (m - r .len) v))) (omega arith)
+    (rw length-replicate (omega arith)) (room-ok (length b) m (q .1)))
 
 -- ---- the shorter side moves
 
@@ -67,14 +70,27 @@ insert-moved i v d b r e =
     let c = length b in
     let h = r .head in
     let n = r .len in
-    by-test₂ (ltb (n - i) i) (λ m h′. m ≡ strays d (take i (marksFrom d c b h n) ++ (marked .brought v ∷ drop i (marksFrom d c b h n))) (placesFrom c h′ (n + 1)))
-    (λ t. cut-moved d b h n (g .placed) (g .fits) _ h (n + 1) (n - i) i i (v ∷ []) refl (g .placed) (omega arith) le (omega arith) room
-    (λ k k′. omega (arith, stretch-stays h h i refl, goes c h k i (i + 1) (n - i) (λ lt. (omega arith, omega arith, (λ z. omega arith))))) (λ z. omega arith))
+    by-test₂ (ltb (n - i) i) (λ m h′. m
+    ≡ strays d (take i (marksFrom d c b h n) ++ (marked .brought v ∷ drop i (marksFrom d c b h n)))
+    (placesFrom c h′ (n + 1)))
+    (λ t. cut-moved d b h n (g .placed) (g .fits) _ h (n + 1) (n - i) i i (v ∷ []) refl (g .placed) (omega arith) le
+    (omega arith) room
+    (λ k k′. omega (
+      arith,
+      stretch-stays h h i refl,
+      goes c h k i (i + 1) (n - i) (λ lt. (omega arith, omega arith, (λ z. omega arith))),
+    )) (λ z. omega arith))
     (λ t. let h′ = stepBack c h 1 in
-    cut-moved d b h n (g .placed) (g .fits) _ h′ (n + 1) i i i (v ∷ []) refl (stepBack-good c h (g .placed) 1) (omega arith) le (omega arith) room
+    cut-moved d b h n (g .placed) (g .fits) _ h′ (n + 1) i i i (v ∷ []) refl (stepBack-good c h (g .placed) 1)
+    (omega arith) le (omega arith) room
     (λ k k′. let kept : place c h i ≡ place c h′ (i + 1) =
-    ap (λ (a : ℕ). place c a i) (sym (step-back-on c h k 1 (omega arith))) ∙ place-place c h′ k′ 1 i (omega arith) ∙ ap (place c h′) (omega arith) in
-    omega (arith, head-goes c h k (c - 1) i (λ lt. (omega arith, omega arith)), stretch-stays (place c h i) (place c h′ (i + 1)) (n - i) kept)) (λ z. omega arith))
+    ap (λ (a : ℕ). place c a i) (sym (step-back-on c h k 1 (omega arith))) ∙ place-place c h′ k′ 1 i (omega arith)
+    ∙ ap (place c h′) (omega arith) in
+    omega (
+      arith,
+      head-goes c h k (c - 1) i (λ lt. (omega arith, omega arith)),
+      stretch-stays (place c h i) (place c h′ (i + 1)) (n - i) kept,
+    )) (λ z. omega arith))
 
 pub remove-moved : (i : ℕ) → MovedTrue (removeAt i)
 unfolding refusal recAfter stepped removeAt
@@ -88,11 +104,28 @@ remove-moved i d b r e =
     by-test₃ (ltb i n) (λ m h′ n′. m ≡ strays d (take i w ++ drop (suc i) w) (placesFrom c h′ n′))
     (λ s. let lt = ltb→lt i n s in
     by-test₂ (ltb (n - i - 1) i) (λ m h′. m ≡ strays d (take i w ++ drop (suc i) w) (placesFrom c h′ (n - 1)))
-    (λ t. cut-moved d b h n (g .placed) (g .fits) _ h (n - 1) (n - i - 1) i (suc i) [] refl (g .placed) (omega arith) (omega arith) (omega arith) (omega arith)
-    (λ k k′. omega (arith, stretch-stays h h i refl, goes c h k (suc i) (i + 0) (n - suc i) (λ l. (omega arith, omega arith, (λ z. omega arith))))) (λ z. omega arith))
+    (λ t. cut-moved d b h n (g .placed) (g .fits) _ h (n - 1) (n - i - 1) i (suc i) [] refl (g .placed) (omega arith)
+    (omega arith) (omega arith) (omega arith)
+    (λ k k′. omega (
+      arith,
+      stretch-stays h h i refl,
+      goes c h k (suc i) (i + 0) (n - suc i) (λ l. (omega arith, omega arith, (λ z. omega arith))),
+    ))
+    (λ z. omega arith))
     (λ t. let h′ = place c h 1 in
-    cut-moved d b h n (g .placed) (g .fits) _ h′ (n - 1) i i (suc i) [] refl (place-good c h (g .placed) 1 (omega arith)) (omega arith) (omega arith) (omega arith) (omega arith)
-    (λ k k′. let kept : place c h (suc i) ≡ place c h′ (i + 0) = ap (place c h) (omega arith) ∙ sym (place-place c h k 1 (i + 0) (omega arith)) in
-    omega (arith, head-goes c h k 1 i (λ l. (omega arith, omega arith)), stretch-stays (place c h (suc i)) (place c h′ (i + 0)) (n - suc i) kept)) (λ z. omega arith)))
+    cut-moved d b h n (g .placed) (g .fits) _ h′ (n - 1) i i (suc i) [] refl
+    (place-good c h (g .placed) 1 (omega arith)) (omega arith) (omega arith) (omega arith) (omega arith)
+    (λ k k′. let kept : place c h (suc i)
+    ≡ place c h′ (i + 0) = ap (place c h) (omega arith) ∙ sym (place-place c h k 1 (i + 0) (omega arith)) in
+    omega (
+      arith,
+      head-goes c h k 1 i (λ l. (omega arith, omega arith)),
+      stretch-stays (place c h (suc i)) (place c h′ (i + 0)) (n - suc i) kept,
+    )) (λ z. omega arith)))
     (λ s. let ge = nltb→le i n s in
-    rw (take-all i w (omega (arith, length-marks d c b h n)), drop-of-length-le w {i = suc i} (omega (arith, length-marks d c b h n)), append-nil) (same-moved d b h n (g .placed) (g .fits)))
+    rw (
+      take-all i w (omega (arith, length-marks d c b h n)),
+      drop-of-length-le w {i = suc i} (omega (arith, length-marks d c b h n)),
+      append-nil,
+    )
+    (same-moved d b h n (g .placed) (g .fits)))

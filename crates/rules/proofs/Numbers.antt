@@ -1,4 +1,5 @@
--- A rule carries elements along without looking at more than their numbers: what it leaves of marked elements are the elements that it leaves. Assumes nothing.
+-- A rule carries elements along without looking at more than their numbers: what
+-- it leaves of marked elements are the elements that it leaves. Assumes nothing.
 use mathlib.Core.Bool.{Bool}
 use mathlib.Core.List.{List, map, _++_, [], _∷_}
 use mathlib.Core.Path.{_≡_, refl, ap}
@@ -54,25 +55,31 @@ map-copies : (n v : ℕ) → map number-of (replicate n (marked .brought v)) ≡
 map-copies zero v = refl
 map-copies (suc n) v = ap (λ (x : List ℕ). v ∷ x) (map-copies n v)
 
-map-those : (f : ℕ → Bool) (l : List Marked) → map number-of (those (λ (e : Marked). f (e .number)) l) ≡ those f (map number-of l)
+map-those : (f : ℕ → Bool) (l : List Marked)
+    → map number-of (those (λ (e : Marked). f (e .number)) l) ≡ those f (map number-of l)
 unfolding those
 map-those f [] = refl
 map-those f (e ∷ l) =
-    by-test₂ (f (e .number)) {a = e ∷ those (λ (x : Marked). f (x .number)) l} {b = those (λ (x : Marked). f (x .number)) l} {c = e .number ∷ those f (map number-of l)} {d = those f (map number-of l)}
+    by-test₂ (f (e .number)) {a = e ∷ those (λ (x : Marked). f (x .number)) l}
+    {b = those (λ (x : Marked). f (x .number)) l} {c = e .number ∷ those f (map number-of l)}
+    {d = those f (map number-of l)}
     (λ x y. map number-of x ≡ y) (λ t. ap (λ (x : List ℕ). e .number ∷ x) (map-those f l)) (λ t. map-those f l)
 
 -- a choice
-map-whether : (t : Bool) (l m : List Marked) (x y : List ℕ) → map number-of l ≡ x → map number-of m ≡ y → map number-of (whether t l m) ≡ whether t x y
+map-whether : (t : Bool) (l m : List Marked) (x y : List ℕ) → map number-of l ≡ x → map number-of m ≡ y
+    → map number-of (whether t l m) ≡ whether t x y
 map-whether t l m x y e f = by-test₂ t (λ (a : List Marked) (c : List ℕ). map number-of a ≡ c) (λ u. e) (λ u. f)
 
 pub natural : (o : Op) → Natural (rule o)
-unfolding rule pushBack pushFront popFront popBack popFrontIf popBackIf truncate truncateFront clear extendWith prepend extendFront resize insertAt removeAt exchange swapRemoveFront swapRemoveBack retain splice
+unfolding rule pushBack pushFront popFront popBack popFrontIf popBackIf truncate truncateFront clear extendWith prepend
+    extendFront resize insertAt removeAt exchange swapRemoveFront swapRemoveBack retain splice
 natural (pushBack! v) w = rw map-join
 natural (pushFront! v) w = refl
 natural popFront! w = map-rest 1 w
 natural popBack! w = rw (length-map, map-first)
 natural (popFrontIf! t) w = rw (passes-number (meets t) w 0) (map-whether _ _ _ _ _ (map-rest 1 w) refl)
-natural (popBackIf! t) w = rw (passes-number (meets t) w (length w - 1), length-map) (map-whether _ _ _ _ _ (map-first (length w - 1) w) refl)
+natural (popBackIf! t) w = rw (passes-number (meets t) w (length w - 1), length-map)
+    (map-whether _ _ _ _ _ (map-first (length w - 1) w) refl)
 natural (truncate! m) w = map-first m w
 natural (truncateFront! m) w = rw (length-map, map-rest)
 natural clear! w = refl
@@ -80,7 +87,8 @@ natural (extend! vs) w = rw (map-join, made-numbers)
 natural (prepend! vs) w = rw (map-join, made-numbers)
 natural (extendFront! vs) w = rw (map-join, made-numbers)
 natural (resize! m v) w = rw (map-join, map-first, map-copies, length-map)
-natural (insert! i v) w = rw (map-join, map-first) (ap (λ (x : List ℕ). take i (map number-of w) ++ v ∷ x) (map-rest i w))
+natural (insert! i v) w = rw (map-join, map-first)
+    (ap (λ (x : List ℕ). take i (map number-of w) ++ v ∷ x) (map-rest i w))
 natural (remove! i) w = rw (map-join, map-first, map-rest)
 natural (swap! i j) w = rw (map-put, map-put, map-at, map-at)
 natural (swapRemoveFront! i) w = rw length-map (map-whether _ _ _ _ _ (rw (map-rest, map-put, map-at)) refl)

@@ -19,7 +19,8 @@ use Rattle.rules.specs.Refusals.{room, onChange}
 
 -- ---- `append`
 
-pub append-ok : (c : ℕ) (r : Rec) (c′ : ℕ) (r′ : Rec) → onAppending c r c′ r′ ≡ 0 → Good c r × Good c′ r′ × (r .len + r′ .len ≤ c)
+pub append-ok : (c : ℕ) (r : Rec) (c′ : ℕ) (r′ : Rec) → onAppending c r c′ r′ ≡ 0
+    → Good c r × Good c′ r′ × (r .len + r′ .len ≤ c)
 unfolding onAppending
 append-ok c r c′ r′ e =
     let p = change-ok c r _ e in
@@ -27,13 +28,17 @@ append-ok c r c′ r′ e =
     (p .0, q .0, room-ok c (r .len + r′ .len) (q .1))
 
 -- our side is left as by `extend`, the other's as by `clear`, and neither rule asks more
-pub append-leaves : (b : List ℕ) (r : Rec) (b′ : List ℕ) (r′ : Rec) → onAppending (length b) r (length b′) r′ ≡ 0 → Leaves b r (extendWith (held b′ r′)) × Leaves b′ r′ clear
+pub append-leaves : (b : List ℕ) (r : Rec) (b′ : List ℕ) (r′ : Rec) → onAppending (length b) r (length b′) r′ ≡ 0
+    → Leaves b r (extendWith (held b′ r′)) × Leaves b′ r′ clear
 unfolding onAppending refusal extendWith clear
 append-leaves b r b′ r′ e =
     let p = change-ok (length b) r _ e in
     let q = change-ok (length b′) r′ _ (p .1) in
-    let own : room (length b) (r .len + length (held b′ r′)) ≡ 0 = rw length-held (q .1) in
-    (op-leaves b r (extendWith (held b′ r′)) (extend-lawful (held b′ r′)) (ap (onChange (length b) r) (own ∙ sym (p .1)) ∙ e), op-leaves b′ r′ clear clear-lawful (ap (onChange (length b′) r′) (sym (q .1)) ∙ p .1))
+    let own : room (length b) (r .len + length (held b′ r′)) ≡ 0 = rw length-held (q .1) in (
+      op-leaves b r (extendWith (held b′ r′)) (extend-lawful (held b′ r′))
+          (ap (onChange (length b) r) (own ∙ sym (p .1)) ∙ e),
+      op-leaves b′ r′ clear clear-lawful (ap (onChange (length b′) r′) (sym (q .1)) ∙ p .1),
+    )
 
 -- ---- `split_off`
 
@@ -45,7 +50,11 @@ split-ok c r c′ at e =
     (p .0, leb→le at (r .len) (q .0), room-ok c′ (r .len - at) (q .1))
 
 -- our side is left as by `truncate`, and the target has room for the others
-pub split-leaves : (b : List ℕ) (r : Rec) (c′ at : ℕ) → onSplitting (length b) r c′ at ≡ 0 → Leaves b r (truncate at) × (length (drop at (held b r)) ≤ c′)
+pub split-leaves : (b : List ℕ) (r : Rec) (c′ at : ℕ) → onSplitting (length b) r c′ at ≡ 0
+    → Leaves b r (truncate at) × (length (drop at (held b r)) ≤ c′)
 unfolding onSplitting refusal truncate
-split-leaves b r c′ at e =
-    (op-leaves b r (truncate at) (truncate-lawful at) (ap (onChange (length b) r) (sym (change-ok (length b) r _ e .1)) ∙ e), simp (length-drop, length-held) (split-ok (length b) r c′ at e .2))
+split-leaves b r c′ at e = (
+  op-leaves b r (truncate at) (truncate-lawful at)
+      (ap (onChange (length b) r) (sym (change-ok (length b) r _ e .1)) ∙ e),
+  simp (length-drop, length-held) (split-ok (length b) r c′ at e .2),
+)

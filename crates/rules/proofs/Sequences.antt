@@ -16,7 +16,8 @@ use Rattle.rules.specs.Sequences.{Pair, stands, Turn, run, timesEntered,
 pub record Kept (s e : Pair) (entered left : ℕ → ℕ) : Type 0 where
   pub fit-a : Fit (e .a .slots) (e .a .state)
   pub fit-b : Fit (e .b .slots) (e .b .state)
-  pub balance : (x : ℕ) → tally x (stands (s .a .slots) (s .a .state)) + tally x (stands (s .b .slots) (s .b .state)) + entered x
+  pub balance : (x : ℕ) → tally x (stands (s .a .slots) (s .a .state)) + tally x (stands (s .b .slots) (s .b .state))
+      + entered x
       ≡ tally x (stands (e .a .slots) (e .a .state)) + tally x (stands (e .b .slots) (e .b .state)) + left x
 
 pub run-keeps : (s : Pair) → Fit (s .a .slots) (s .a .state) → Fit (s .b .slots) (s .b .state) → (ts : List Turn)

@@ -16,7 +16,8 @@ pub by-taken : {b : List ℕ} {h : State} {b′ : List ℕ} {h′ : State} → F
     → (k : Call) (P : State → State → Taken → Type 0)
     → P h h′ passedOver
     → ((r : Rec) → Good (length b) r → (k : QueueCall) → P (shut r) h′ (queueTaken r k))
-    → ((d : Drain) → length b ≤ mostSlots → GoodDrain (length b) d → (k : DrainCall) → P (draining d) h′ (drainTaken d k))
+    → ((d : Drain) → length b ≤ mostSlots → GoodDrain (length b) d → (k : DrainCall)
+    → P (draining d) h′ (drainTaken d k))
     → ((r r′ : Rec) → Good (length b) r → Good (length b′) r′ → (k : PairCall)
     → P (shut r) (shut r′) (bothTaken r r′ k))
     → P h h′ (takes h h′ k)

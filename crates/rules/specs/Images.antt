@@ -51,7 +51,9 @@ howMany s = (length s - 3) / 4
 -- the bytes keep the layout: L is 1 + 4n with n at most that, the version is 1, and nothing follows
 unfoldable pub laidOut : List ℕ → Bool
 laidOut s =
-    eqb (length s) (2 + bytesAfter (howMany s)) && (eqb (bigEndian 0 (take 2 s)) (bytesAfter (howMany s)) && (eqb (getD s 2 0) version && leb (howMany s) mostShort))
+    eqb (length s) (2 + bytesAfter (howMany s))
+    && (eqb (bigEndian 0 (take 2 s)) (bytesAfter (howMany s))
+    && (eqb (getD s 2 0) version && leb (howMany s) mostShort))
 
 -- the first n numbers of four bytes each
 unfoldable pub fours : ℕ → List ℕ → List ℕ

@@ -31,14 +31,18 @@ lengthOf o =
 unfoldable pub someLength : ℕ → Bool
 someLength n = eqb n 2 || (eqb n 6 || eqb n 10)
 
--- operation o with its operands x and y: 1 push_back v, 2 push_front v, 3 pop_front, 4 pop_back, 5 drain start end, 6 truncate n,
--- 7 truncate_front n, 8 insert position v, 9 remove position
+-- operation o with its operands x and y: 1 push_back v, 2 push_front v, 3 pop_front, 4 pop_back,
+-- 5 drain start end, 6 truncate n, 7 truncate_front n, 8 insert position v, 9 remove position
 unfoldable pub entryOf : ℕ → ℕ → ℕ → Entry
 entryOf o x y =
-    whether (eqb o 1) (doPushBack x) (whether (eqb o 2) (doPushFront x) (whether (eqb o 3) doPopFront (whether (eqb o 4) doPopBack
-    (whether (eqb o 5) (doDrain x y) (whether (eqb o 6) (doTruncate x) (whether (eqb o 7) (doTruncateFront x) (whether (eqb o 8) (doInsert x y) (doRemove x))))))))
+    whether (eqb o 1) (doPushBack x)
+    (whether (eqb o 2) (doPushFront x) (whether (eqb o 3) doPopFront (whether (eqb o 4) doPopBack
+    (whether (eqb o 5) (doDrain x y)
+    (whether (eqb o 6) (doTruncate x)
+    (whether (eqb o 7) (doTruncateFront x) (whether (eqb o 8) (doInsert x y) (doRemove x))))))))
 
--- what stands at a position of the bytes: an operation, and the position behind its record; a broken record; one cut short, so that more bytes may help; the end
+-- what stands at a position of the bytes: an operation, and the position behind
+-- its record; a broken record; one cut short, so that more bytes may help; the end
 pub data Got : Type 0 where
   taken : Entry → ℕ → Got
   broken cut ended : Got
@@ -52,7 +56,8 @@ unfoldable pub lengthAt : List ℕ → ℕ → ℕ
 lengthAt s p = bigEndian 0 (take 2 (drop p s))
 
 -- the record at position p: the same length and version as an image, then an operation byte and its operands.
--- What stands there decides as far as it goes: a length of no operation, another version, and an operation of another length are broken
+-- What stands there decides as far as it goes: a length of no operation,
+-- another version, and an operation of another length are broken
 unfoldable pub recordAt : List ℕ → ℕ → Got
 recordAt s p =
     let k = length s - p in

@@ -9,7 +9,8 @@ use Rattle.rules.specs.Refusals.{onSlots, onLayout, room}
 use Rattle.rules.specs.Slots.{lay}
 use Rattle.rules.specs.Choices.{unless}
 
--- what such a call tells its caller: the refusal number, 0 if there is none; the moved count; the record, none when refused
+-- what such a call tells its caller: the refusal number, 0 if
+-- there is none; the moved count; the record, none when refused
 pub record MakeAnswer : Type 0 where
   pub refused : ℕ
   pub moved : ℕ
@@ -27,7 +28,11 @@ noneMade b n = record { answer = record { refused = n; moved = 0; made = none };
 
 -- the list l stands from slot 0 on; every other slot keeps its old value
 unfoldable pub madeWith : List ℕ → List ℕ → MakeOutcome
-madeWith b l = record { answer = record { refused = 0; moved = 0; made = some (newRec (length l)) }; slots = lay b 0 l; entered = l }
+madeWith b l = record {
+  answer = record { refused = 0; moved = 0; made = some (newRec (length l)) };
+  slots = lay b 0 l;
+  entered = l;
+}
 
 -- fresh: head 0, len 0
 unfoldable pub fresh : List ℕ → MakeOutcome

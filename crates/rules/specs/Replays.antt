@@ -57,7 +57,9 @@ recOr r (draining d) = r
 
 -- per record: refusal (0 if none), moved, head, len, and for 3, 4, 9 the number or `none`, parted by one space
 unfoldable pub answerLine : Rec → Entry → Answer → List ℕ
-answerLine r e a = lineOf (decimal (a .refused)) (decimal (a .moved) ∷ decimal (recOr r (a .state) .head) ∷ decimal (recOr r (a .state) .len) ∷ handedWord e (a .handed))
+answerLine r e a = lineOf (decimal (a .refused))
+    (decimal (a .moved) ∷ decimal (recOr r (a .state) .head) ∷ decimal (recOr r (a .state) .len)
+    ∷ handedWord e (a .handed))
 
 -- a broken, unknown or cut record: `5 0`, head and len
 unfoldable pub brokenLine : Rec → List ℕ
@@ -71,7 +73,8 @@ endLine b r = lineOf (101 ∷ 110 ∷ 100 ∷ []) (map decimal (held b r))
 unfoldable pub replayed : ℕ → List ℕ → ℕ → List ℕ → Rec → List ℕ
 replayed zero s p b r = endLine b r
 replayed (suc k) s p b r = elim (recordAt s p) [
-  | taken e p′ ↦ (let o = doEntry b r e in answerLine r e (o .answer) ++ replayed k s p′ (o .slots) (recOr r (o .answer .state)))
+  | taken e p′ ↦ (let o = doEntry b r e in answerLine r e (o .answer)
+      ++ replayed k s p′ (o .slots) (recOr r (o .answer .state)))
   | broken ↦ brokenLine r ++ endLine b r
   | cut ↦ brokenLine r ++ endLine b r
   | ended ↦ endLine b r

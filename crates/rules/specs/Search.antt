@@ -20,7 +20,8 @@ unfoldable pub halving : ℕ → (ℕ → Bool) → List ℕ → ℕ → ℕ →
 halving zero isLess s low high = low
 halving (suc k) isLess s low high =
     whether (ltb low high)
-    (whether (isLess (getD s (middle low high) 0)) (halving k isLess s (middle low high + 1) high) (halving k isLess s low (middle low high)))
+    (whether (isLess (getD s (middle low high) 0)) (halving k isLess s (middle low high + 1) high)
+    (halving k isLess s low (middle low high)))
     low
 
 -- within a run of n: low 0, high n; each step lowers high - low, so n of them are enough
@@ -37,7 +38,8 @@ spotIn x s off =
     let low = placeIn (λ v. ltb v x) s in
     whether (ltb low (length s) && eqb (getD s low 0) x) (foundAt (off + low)) (placeAt (off + low))
 
--- look at the first of the back run. Equal: found at the front run's length. Less than x: the back run; greater, or no back run: the front run
+-- look at the first of the back run. Equal: found at the front run's
+-- length. Less than x: the back run; greater, or no back run: the front run
 unfoldable pub spotOf : ℕ → List ℕ → List ℕ → Spot
 spotOf x front [] = spotIn x front 0
 spotOf x front (v ∷ s) =
@@ -55,4 +57,5 @@ searchFor b r x = looked (onQueue (length b) r 0) (spotOf x (frontRun b r 0 (r .
 
 -- `partition_point` on a queue
 unfoldable pub partitionBy : List ℕ → Rec → Test → Look ℕ
-partitionBy b r t = looked (onQueue (length b) r 0) (pointOf (meets t) (frontRun b r 0 (r .len)) (backRun b r 0 (r .len)))
+partitionBy b r t = looked (onQueue (length b) r 0)
+    (pointOf (meets t) (frontRun b r 0 (r .len)) (backRun b r 0 (r .len)))

@@ -43,7 +43,11 @@ nextStep b w =
     let n = onWalk (length b) w in
     unless n
     (whether (ltb (w .low) (w .high))
-    (record { refused = 0; walk = record { rec = w .rec; low = w .low + 1; high = w .high }; gives = some (getD (held b (w .rec)) (w .low) 0) })
+    (record {
+      refused = 0;
+      walk = record { rec = w .rec; low = w .low + 1; high = w .high };
+      gives = some (getD (held b (w .rec)) (w .low) 0);
+    })
     (sameWalk w 0))
     (sameWalk w n)
 
@@ -53,6 +57,10 @@ nextBackStep b w =
     let n = onWalk (length b) w in
     unless n
     (whether (ltb (w .low) (w .high))
-    (record { refused = 0; walk = record { rec = w .rec; low = w .low; high = w .high - 1 }; gives = some (getD (held b (w .rec)) (w .high - 1) 0) })
+    (record {
+      refused = 0;
+      walk = record { rec = w .rec; low = w .low; high = w .high - 1 };
+      gives = some (getD (held b (w .rec)) (w .high - 1) 0);
+    })
     (sameWalk w 0))
     (sameWalk w n)

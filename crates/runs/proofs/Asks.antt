@@ -1,4 +1,5 @@
--- A look that asks more than the tests of slots and record: refused, or what it sees. n: the number that it asks for. Assumes nothing.
+-- A look that asks more than the tests of slots and record: refused,
+-- or what it sees. n: the number that it asks for. Assumes nothing.
 use mathlib.Core.List.{List}
 use mathlib.Core.Path.{_≡_, sym, _∙_, refl}
 use Prim.Native.Nat.{ℕ, zero, suc}
@@ -27,9 +28,11 @@ module _ {A : Type 0} (n : ℕ) (a : A) where
   asks-seen e = sym (unless-go n _ _ e)
 
 -- refused by the tests of slots and record, whatever is asked after
-pub asks-first : {A : Type 0} (b : List ℕ) (r : Rec) (t : Checked) → numberIn t ≡ onQueue (length b) r 0 → (x : Refusal) → t ≡ Failed x → (k : ℕ) (a : A)
+pub asks-first : {A : Type 0} (b : List ℕ) (r : Rec) (t : Checked) → numberIn t ≡ onQueue (length b) r 0 → (x : Refusal)
+    → t ≡ Failed x → (k : ℕ) (a : A)
     → refuses (numberOf x) ≡ looked (onQueue (length b) r k) a
-asks-first b r t asked x f k a = asks-refused _ a x (queue-stop (length b) r k (numberOf x) (some-number x) (failed-number t x _ asked f))
+asks-first b r t asked x f k a =
+    asks-refused _ a x (queue-stop (length b) r k (numberOf x) (some-number x) (failed-number t x _ asked f))
 
 -- ---- what an answer tells of the look
 

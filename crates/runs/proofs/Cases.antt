@@ -1,4 +1,5 @@
--- The two runs of a range, case by case: an empty range, one that ends before the slots do, one that goes on from slot 0. Assumes nothing.
+-- The two runs of a range, case by case: an empty range, one that ends
+-- before the slots do, one that goes on from slot 0. Assumes nothing.
 use mathlib.Core.Logic.{_≢_}
 use mathlib.Core.Path.{_≡_}
 use Prim.Native.Nat.{ℕ, _+_, _-_, _≤_, _<_}
@@ -35,9 +36,11 @@ module _ (c h s e : ℕ) where
   runs-two ne over = rw (ne-eqb s e ne, lt-leb _ _ over)
 
   -- what holds in each case holds of the two runs
-  pub by-runs : (P : TwoRuns → Type 0) → (s ≡ e → P none-of) → (s ≢ e → e - s ≤ c - place c h s → P (one-of (place c h s) (e - s)))
+  pub by-runs : (P : TwoRuns → Type 0) → (s ≡ e → P none-of)
+      → (s ≢ e → e - s ≤ c - place c h s → P (one-of (place c h s) (e - s)))
       → (s ≢ e → c - place c h s < e - s → P (two-of c (place c h s) (e - s))) → P (runs c h s e)
   unfolding runs
   by-runs P at-none at-one at-two =
       by-test (eqb s e) P (λ t. at-none (eqb→eq s e t))
-      (λ t. by-test (leb (e - s) (c - place c h s)) P (λ u. at-one (neqb→ne s e t) (leb→le _ _ u)) (λ u. at-two (neqb→ne s e t) (nleb→lt _ _ u)))
+      (λ t. by-test (leb (e - s) (c - place c h s)) P (λ u. at-one (neqb→ne s e t) (leb→le _ _ u))
+      (λ u. at-two (neqb→ne s e t) (nleb→lt _ _ u)))

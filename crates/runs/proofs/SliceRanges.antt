@@ -14,7 +14,8 @@ use Rattle.queue.specs.declared.refusals.Checked.{Checked}
 use Rattle.queue.specs.declared.refusals.Checked.the-variants.{Refused as Failed}
 use Rattle.queue.specs.declared.refusals.Refusal.{Refusal}
 
-pub range-first : (b : List ℕ) (r : Rec) (s e : ℕ) (t : Checked) → numberIn t ≡ onQueue (length b) r 0 → (x : Refusal) → t ≡ Failed x → refuses (numberOf x) ≡ lookRuns b r s e
+pub range-first : (b : List ℕ) (r : Rec) (s e : ℕ) (t : Checked) → numberIn t ≡ onQueue (length b) r 0 → (x : Refusal)
+    → t ≡ Failed x → refuses (numberOf x) ≡ lookRuns b r s e
 unfolding lookRuns onRange
 range-first b r s e t asked x f = asks-first b r t asked x f _ _
 

@@ -26,7 +26,10 @@ pub record BothWithin (c : ℕ) (t : TwoRuns) : Type 0 where
   pub back : Within c (t .back)
 
 empty-within : (c : ℕ) → BothWithin c none-of
-empty-within c = record { front = record { ordered = omega arith; inside = omega arith }; back = record { ordered = omega arith; inside = omega arith } }
+empty-within c = record {
+  front = record { ordered = omega arith; inside = omega arith };
+  back = record { ordered = omega arith; inside = omega arith };
+}
 
 -- whatever is asked
 pub runs-within : (b : List ℕ) (r : Rec) (s e : ℕ) → BothWithin (length b) (runsOr b r s e)
@@ -36,10 +39,17 @@ runs-within b r s e =
     (λ z.
     let q = queue-ok (length b) r _ z in
     let k = range-ok (r .len) s e 0 (q .1) in
-    let w : place (length b) (r .head) s ≤ length b - 1 = place-good (length b) (r .head) (q .0 .placed) s (omega (arith, q .0 .fits)) in
+    let w : place (length b) (r .head) s ≤ length b - 1 =
+    place-good (length b) (r .head) (q .0 .placed) s (omega (arith, q .0 .fits)) in
     by-runs (length b) (r .head) s e (BothWithin (length b)) (λ same. empty-within _)
-    (λ differ fits. record { front = record { ordered = omega arith; inside = omega arith }; back = record { ordered = omega arith; inside = omega arith } })
-    (λ differ over. record { front = record { ordered = omega arith; inside = omega arith }; back = record { ordered = omega arith; inside = omega arith } }))
+    (λ differ fits. record {
+      front = record { ordered = omega arith; inside = omega arith };
+      back = record { ordered = omega arith; inside = omega arith };
+    })
+    (λ differ over. record {
+      front = record { ordered = omega arith; inside = omega arith };
+      back = record { ordered = omega arith; inside = omega arith };
+    }))
     (empty-within _)
 
 -- the two runs that a look saw, and what stands for them where it was refused

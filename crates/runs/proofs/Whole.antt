@@ -23,7 +23,8 @@ use Rattle.rules.specs.Choices.{ask}
 use Rattle.runs.proofs.Cases.{by-runs}
 
 -- elements that go on from slot 0: those up to the last slot, and behind them the rest from the first slot on
-pub read-round : (b : List ℕ) (w n : ℕ) → w < length b → length b - w < n → n ≤ length b → read (length b) b w n ≡ take (length b - w) (drop w b) ++ take (n - (length b - w)) b
+pub read-round : (b : List ℕ) (w n : ℕ) → w < length b → length b - w < n → n ≤ length b
+    → read (length b) b w n ≡ take (length b - w) (drop w b) ++ take (n - (length b - w)) b
 read-round b w n in-slots over fits =
     let cap = length b in
     let rest = n - (cap - w) in
@@ -49,8 +50,10 @@ module _ (b : List ℕ) (h s e : ℕ) (good : h ≤ length b - 1) (le : s ≤ e)
       (λ same. let empty : 0 ≡ e - s = omega arith in sym (listOf-none b w) ∙ ap (read cap b w) empty)
       (λ differ room.
       let long : w + (e - s) - w ≡ e - s = omega arith in
-      append-nil _ ∙ ap (λ (k : ℕ). take k (drop w b)) long ∙ sym (read-straight cap b w (e - s) refl (omega (arith, in-ring differ))))
-      (λ differ over. rw (sub-zero (e - s - (cap - w))) (sym (read-round b w (e - s) (in-ring differ) over (omega arith))))
+      append-nil _ ∙ ap (λ (k : ℕ). take k (drop w b)) long
+      ∙ sym (read-straight cap b w (e - s) refl (omega (arith, in-ring differ))))
+      (λ differ over. rw (sub-zero (e - s - (cap - w)))
+      (sym (read-round b w (e - s) (in-ring differ) over (omega arith))))
 
 module _ (b : List ℕ) (r : Rec) where
   -- the n elements from position s on, of which there are some, stand from their place on
@@ -64,7 +67,8 @@ module _ (b : List ℕ) (r : Rec) where
       ∙ listOf-take b (place (length b) (r .head) s) low n (r .len - s) (omega arith) (omega arith))
 
   -- an accepted range: its runs are the range's elements, in order
-  pub runs-range : (s e : ℕ) → onRange (length b) r s e ≡ 0 → frontRun b r s e ++ backRun b r s e ≡ take (e - s) (drop s (held b r))
+  pub runs-range : (s e : ℕ) → onRange (length b) r s e ≡ 0
+      → frontRun b r s e ++ backRun b r s e ≡ take (e - s) (drop s (held b r))
   unfolding frontRun backRun runsOr onRange
   runs-range s e z =
       let q = queue-ok (length b) r _ z in
@@ -81,5 +85,6 @@ module _ (b : List ℕ) (r : Rec) where
   pub runs-held : onQueue (length b) r 0 ≡ 0 → frontRun b r 0 (r .len) ++ backRun b r 0 (r .len) ≡ held b r
   unfolding onRange inRange ask
   runs-held z =
-      runs-range 0 (r .len) (queue-go (length b) r _ z ∙ rw (le-leb 0 (r .len) (omega arith), le-leb (r .len) (r .len) (omega arith)))
+      runs-range 0 (r .len) (queue-go (length b) r _ z
+      ∙ rw (le-leb 0 (r .len) (omega arith), le-leb (r .len) (r .len) (omega arith)))
       ∙ take-all (r .len - 0) (held b r) (omega (arith, length-held b r))

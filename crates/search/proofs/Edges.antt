@@ -31,37 +31,50 @@ pub record Edge (f : ℕ → Bool) (s : List ℕ) (p : ℕ) : Type 0 where
 -- ---- the halving ends at an edge
 
 module _ (f : ℕ → Bool) (s : List ℕ) where
-  halving-edge : (k low high : ℕ) → high - low ≤ k → low ≤ high → high ≤ length s → ((i : ℕ) → suc i ≡ low → f (getD s i 0) ≡ true) → (high < length s → f (getD s high 0) ≡ false)
+  halving-edge : (k low high : ℕ) → high - low ≤ k → low ≤ high → high ≤ length s
+      → ((i : ℕ) → suc i ≡ low → f (getD s i 0) ≡ true) → (high < length s → f (getD s high 0) ≡ false)
       → Edge f s (halving k f s low high)
   unfolding halving
   halving-edge zero low high enough le in-s at-low at-high =
       let e : high ≡ low = omega arith in
-      record { within = omega arith; before = at-low; here = λ lt. subst (λ (p : ℕ). f (getD s p 0) ≡ false) e (at-high (omega arith)) }
+      record {
+        within = omega arith;
+        before = at-low;
+        here = λ lt. subst (λ (p : ℕ). f (getD s p 0) ≡ false) e (at-high (omega arith));
+      }
   halving-edge (suc k) low high enough le in-s at-low at-high =
       by-test (ltb low high) (Edge f s)
       (λ t.
       let lt : low < high = ltb→lt low high t in
       by-test (f (getD s (middle low high) 0)) (Edge f s)
-      (λ u. halving-edge k (middle low high + 1) high (omega arith) (omega arith) in-s (λ i e. let at : i ≡ middle low high = omega arith in rw at (is-true _ u)) at-high)
+      (λ u. halving-edge k (middle low high + 1) high (omega arith) (omega arith) in-s
+      (λ i e. let at : i ≡ middle low high = omega arith in rw at (is-true _ u)) at-high)
       (λ u. halving-edge k low (middle low high) (omega arith) (omega arith) (omega arith) at-low (λ lt. is-false _ u)))
       (λ t.
       let ge : high ≤ low = nltb→le low high t in
       let e : high ≡ low = omega arith in
-      record { within = omega arith; before = at-low; here = λ lt. subst (λ (p : ℕ). f (getD s p 0) ≡ false) e (at-high (omega arith)) })
+      record {
+        within = omega arith;
+        before = at-low;
+        here = λ lt. subst (λ (p : ℕ). f (getD s p 0) ≡ false) e (at-high (omega arith));
+      })
 
   pub place-edge : Edge f s (placeIn f s)
   unfolding placeIn
-  place-edge = halving-edge (length s) 0 (length s) (omega arith) (omega arith) (omega arith) (λ i e. absurd (omega arith)) (λ lt. absurd (omega arith))
+  place-edge = halving-edge (length s) 0 (length s) (omega arith) (omega arith) (omega arith)
+      (λ i e. absurd (omega arith)) (λ lt. absurd (omega arith))
 
 -- ---- the run that is handed, in the list of both
 
 module _ (f : ℕ → Bool) (front back : List ℕ) where
-  -- run stands in the list from off on. If anything stands before it, its first is less; if anything behind it, that is the back run, whose first is not
+  -- run stands in the list from off on. If anything stands before it, its first
+  -- is less; if anything behind it, that is the back run, whose first is not
   pub record Lies (run : List ℕ) (off : ℕ) : Type 0 where
     pub fits : off + length run ≤ length front + length back
     pub same-there : (i : ℕ) → i < length run → getD (front ++ back) (off + i) 0 ≡ getD run i 0
     pub first-less : 0 < off → (0 < length run) × (f (getD run 0 0) ≡ true)
-    pub behind : off + length run < length front + length back → (off + length run ≡ length front) × (0 < length back) × (f (getD back 0 0) ≡ false)
+    pub behind : off + length run < length front + length back
+        → (off + length run ≡ length front) × (0 < length back) × (f (getD back 0 0) ≡ false)
 
   pub handed-lies : Lies (handedRun f front back) (countedFrom f front back)
   unfolding handedRun countedFrom
@@ -90,7 +103,8 @@ module _ (f : ℕ → Bool) (front back : List ℕ) where
     within = omega (arith, length-append front back, l .fits, e .within);
     before = λ i q.
         ⊎-elim
-        (λ more. let at : i ≡ off + (low - 1) = omega arith in rw (at, l .same-there (low - 1) (omega (arith, e .within))) (e .before (low - 1) (omega arith)))
+        (λ more. let at : i ≡ off + (low - 1) = omega arith in rw
+        (at, l .same-there (low - 1) (omega (arith, e .within))) (e .before (low - 1) (omega arith)))
         (λ at-zero.
         let z : low ≡ 0 = omega arith in
         let k = l .first-less (omega arith) in

@@ -1,4 +1,5 @@
--- What the answers of `binary_search` and `partition_point` mean. b, r: the slots and the record of the queue. Assumes nothing.
+-- What the answers of `binary_search` and `partition_point` mean.
+-- b, r: the slots and the record of the queue. Assumes nothing.
 use mathlib.Core.Bool.{Bool, true, false}
 use mathlib.Core.List.{List}
 use mathlib.Core.Logic.{⊎-elim, _≢_}
@@ -29,7 +30,8 @@ module _ (f : ℕ → Bool) (l : List ℕ) (ordered : parted f l) (p : ℕ) (e :
   all-before : (i : ℕ) → i < p → f (getD l i 0) ≡ true
   all-before i lt =
       let last : f (getD l (p - 1) 0) ≡ true = e .before (p - 1) (omega arith) in
-      ⊎-elim (λ earlier. ordered i (p - 1) earlier (omega (arith, e .within)) last) (λ here. let at : i ≡ p - 1 = omega arith in rw at last) (lt-or-ge i (p - 1))
+      ⊎-elim (λ earlier. ordered i (p - 1) earlier (omega (arith, e .within)) last)
+      (λ here. let at : i ≡ p - 1 = omega arith in rw at last) (lt-or-ge i (p - 1))
 
   none-from : (i : ℕ) → p ≤ i → i < length l → f (getD l i 0) ≡ false
   none-from i ge lt = go (f (getD l i 0)) refl
@@ -37,7 +39,9 @@ module _ (f : ℕ → Bool) (l : List ℕ) (ordered : parted f l) (p : ℕ) (e :
       go : (t : Bool) → f (getD l i 0) ≡ t → f (getD l i 0) ≡ false
       go false q = q
       go true q =
-          absurd (not-both (f (getD l p 0)) (⊎-elim (λ later. ordered p i later lt q) (λ here. let at : p ≡ i = omega arith in rw at q) (lt-or-ge p i)) (e .here (omega arith)))
+          absurd (not-both (f (getD l p 0))
+          (⊎-elim (λ later. ordered p i later lt q) (λ here. let at : p ≡ i = omega arith in rw at q)
+          (lt-or-ge p i)) (e .here (omega arith)))
 
 sorted-parted : (x : ℕ) (l : List ℕ) → sorted l → parted (meets (below x)) l
 unfolding meets
@@ -60,27 +64,34 @@ module _ (b : List ℕ) (r : Rec) where
 
   -- in any list, the element before a place to insert is less than x, and the one at it is greater
   pub place-fits : (x p : ℕ) → searchFor b r x ≡ sees (placeAt p)
-      → (p ≤ length (held b r)) × ((i : ℕ) → suc i ≡ p → getD (held b r) i 0 < x) × (p < length (held b r) → x < getD (held b r) p 0)
+      → (p ≤ length (held b r)) × ((i : ℕ) → suc i ≡ p → getD (held b r) i 0 < x)
+      × (p < length (held b r) → x < getD (held b r) p 0)
   unfolding Says meets
   place-fits x p q =
-      let k = said x (placeAt p) q in
-      (k .0 .within, (λ i e. ltb-true _ _ (k .0 .before i e)), λ lt. let ge = ltb-false (getD (held b r) p 0) x (k .0 .here lt) in let ne = k .1 lt in omega arith)
+      let k = said x (placeAt p) q in (
+        k .0 .within,
+        (λ i e. ltb-true _ _ (k .0 .before i e)),
+        λ lt. let ge = ltb-false (getD (held b r) p 0) x (k .0 .here lt) in let ne = k .1 lt in omega arith,
+      )
 
   module _ (x p : ℕ) (ordered : sorted (held b r)) (q : searchFor b r x ≡ sees (placeAt p)) where
     -- AN INSERTION PLACE KEEPS THE ORDER: in a sorted list all before it are less than x
     pub all-less : (i : ℕ) → i < p → getD (held b r) i 0 < x
     unfolding Says meets
-    all-less i lt = ltb-true _ _ (all-before (meets (below x)) (held b r) (sorted-parted x (held b r) ordered) p (said x (placeAt p) q .0) i lt)
+    all-less i lt = ltb-true _ _ (all-before (meets (below x)) (held b r) (sorted-parted x (held b r) ordered) p
+        (said x (placeAt p) q .0) i lt)
 
     -- and all from there on are greater
     pub all-greater : (i : ℕ) → p ≤ i → i < length (held b r) → x < getD (held b r) i 0
     all-greater i ge lt =
         let k = place-fits x p q .2 (omega arith) in
-        ⊎-elim (λ later. omega (arith, ordered p i later lt)) (λ here. let at : i ≡ p = omega arith in rw at k) (lt-or-ge p i)
+        ⊎-elim (λ later. omega (arith, ordered p i later lt)) (λ here. let at : i ≡ p = omega arith in rw at k)
+        (lt-or-ge p i)
 
     -- so x stands nowhere
     pub nowhere : (i : ℕ) → i < length (held b r) → getD (held b r) i 0 ≢ x
-    nowhere i lt e = ⊎-elim (λ earlier. omega (arith, all-less i earlier)) (λ from-p. omega (arith, all-greater i from-p lt)) (lt-or-ge i p)
+    nowhere i lt e = ⊎-elim (λ earlier. omega (arith, all-less i earlier))
+        (λ from-p. omega (arith, all-greater i from-p lt)) (lt-or-ge i p)
 
     -- and with x inserted there the list is sorted
     pub stays-sorted : sorted (after (insertAt p x) (held b r))
@@ -93,7 +104,8 @@ module _ (b : List ℕ) (r : Rec) where
     unfolding partitionBy
     point-said =
         let k = seen-is _ p _ (sym q) in
-        rw (k .1) (rw (runs-held b r (k .0)) at (point-edge (meets t) (frontRun b r 0 (r .len)) (backRun b r 0 (r .len))))
+        rw (k .1) (rw (runs-held b r (k .0)) at
+        (point-edge (meets t) (frontRun b r 0 (r .len)) (backRun b r 0 (r .len))))
 
     pub point-in : p ≤ length (held b r)
     point-in = point-said .within
@@ -101,5 +113,6 @@ module _ (b : List ℕ) (r : Rec) where
     pub all-meet : parted (meets t) (held b r) → (i : ℕ) → i < p → meets t (getD (held b r) i 0) ≡ true
     all-meet ordered = all-before (meets t) (held b r) ordered p point-said
 
-    pub none-meets : parted (meets t) (held b r) → (i : ℕ) → p ≤ i → i < length (held b r) → meets t (getD (held b r) i 0) ≡ false
+    pub none-meets : parted (meets t) (held b r) → (i : ℕ) → p ≤ i → i < length (held b r)
+        → meets t (getD (held b r) i 0) ≡ false
     none-meets ordered = none-from (meets t) (held b r) ordered p point-said

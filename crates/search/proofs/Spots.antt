@@ -24,15 +24,20 @@ Says x l (placeAt p) = Edge (meets (below x)) l p × (p < length l → getD l p 
 
 module _ (x : ℕ) (front back : List ℕ) where
   -- the back run does not begin with x, and run is the one that is handed
-  module _ (no-tie : begins (meets (equal x)) back ≡ false) (run : List ℕ) (off : ℕ) (l : Lies (meets (below x)) front back run off) where
+  module _ (no-tie : begins (meets (equal x)) back ≡ false) (run : List ℕ) (off : ℕ)
+      (l : Lies (meets (below x)) front back run off) where
     first-other : 0 < length back → getD back 0 0 ≢ x
     unfolding meets
     first-other there = eqb-false _ _ (begins-not (meets (equal x)) back no-tie there)
 
-    unlike : (low : ℕ) → low ≤ length run → T (not (ltb low (length run) && eqb (getD run low 0) x)) → off + low < length (front ++ back) → getD (front ++ back) (off + low) 0 ≢ x
+    unlike : (low : ℕ) → low ≤ length run → T (not (ltb low (length run) && eqb (getD run low 0) x))
+        → off + low < length (front ++ back) → getD (front ++ back) (off + low) 0 ≢ x
     unlike low le t lt is-x =
         ⊎-elim
-        (λ inside. absurd (rw (lt-ltb low (length run) inside, eq-eqb (getD run low 0) x (sym (l .same-there low inside) ∙ is-x)) at t))
+        (λ inside. absurd (rw (
+          lt-ltb low (length run) inside,
+          eq-eqb (getD run low 0) x (sym (l .same-there low inside) ∙ is-x),
+        ) at t))
         (λ past.
         let whole : low ≡ length run = omega arith in
         let k = l .behind (omega (arith, length-append front back)) in
@@ -55,10 +60,14 @@ module _ (x : ℕ) (front back : List ℕ) where
   unfolding Says meets
   says-by true tie =
       let k = begins-less (meets (equal x)) back tie in
-      subst (Says x (front ++ back)) (spot-tie x front back tie)
-      (omega (arith, length-append front back), seam (meets (below x)) front back (length front) refl ∙ eqb-true _ _ (k .1))
+      subst (Says x (front ++ back)) (spot-tie x front back tie) (
+        omega (arith, length-append front back),
+        seam (meets (below x)) front back (length front) refl
+            ∙ eqb-true _ _ (k .1),
+      )
   says-by false no-tie =
-      subst (Says x (front ++ back)) (spot-handed x front back _ _ refl refl no-tie) (run-says no-tie _ _ (handed-lies (meets (below x)) front back))
+      subst (Says x (front ++ back)) (spot-handed x front back _ _ refl refl no-tie)
+      (run-says no-tie _ _ (handed-lies (meets (below x)) front back))
 
   pub spot-says : Says x (front ++ back) (spotOf x front back)
   spot-says = says-by (begins (meets (equal x)) back) refl

@@ -24,7 +24,8 @@ module _ (f : ℕ → Bool) (s : List ℕ) where
     ended done (zero, enough, e) = e
     ended done (suc k, enough, e) = rw (le-ltb low high done) at e
 
-    pub goes-up : low < high → f (getD s (middle low high) 0) ≡ true → Halves low high → Halves (middle low high + 1) high
+    pub goes-up : low < high → f (getD s (middle low high) 0) ≡ true → Halves low high
+        → Halves (middle low high + 1) high
     unfolding halving whether
     goes-up lt is-less (zero, enough, e) = absurd (omega arith)
     goes-up lt is-less (suc k, enough, e) = (k, omega arith, rw (lt-ltb low high lt, is-less) at e)

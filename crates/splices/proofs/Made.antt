@@ -22,7 +22,11 @@ module _ (b : List ℕ) (h s d r t : ℕ) where
       → b′ ≡ copied b (place (length b) h (s + d)) (place (length b) h (s + r)) t → SpliceMade b b′ h s d r t h t
   unfolding splicedHead splicedMoved whether
   by-tail b′ hh fits room more moved =
-      rw moved (record { head = rw (le-ltb r d (omega arith)); moved = rw (lt-ltb d r more); room = tail-moved b h s d t hh fits r room })
+      rw moved (record {
+        head = rw (le-ltb r d (omega arith));
+        moved = rw (lt-ltb d r more);
+        room = tail-moved b h s d t hh fits r room;
+      })
 
   -- as many come, or fewer: head and moved are those of the hole that is left
   module _ (fewer : r ≤ d) where
@@ -47,4 +51,6 @@ module _ (b : List ℕ) (h s d r t : ℕ) where
 pub spliced-good : (c h s d r t : ℕ) → h ≤ c - 1 → d ≤ c → splicedHead c h s d r t ≤ c - 1
 unfolding splicedHead
 spliced-good c h s d r t good le =
-    by-test (ltb r d) (λ p. p ≤ c - 1) (λ u. by-test (ltb (s + r) t) (λ p. p ≤ c - 1) (λ w. place-good c h good (d - r) (omega arith)) (λ w. good)) (λ u. good)
+    by-test (ltb r d) (λ p. p ≤ c - 1)
+    (λ u. by-test (ltb (s + r) t) (λ p. p ≤ c - 1) (λ w. place-good c h good (d - r) (omega arith)) (λ w. good))
+    (λ u. good)

@@ -29,7 +29,8 @@ use Rattle.queue.specs.declared.refusals.Refusal.the-variants.{Room}
 module _ (b : List ℕ) (r : Rec) (s e : ℕ) (vs : List ℕ) (first : onChange (length b) r 0 ≡ 0) where
   -- no range of positions
   pub splice-range : (x : Refusal) → inRange (r .len) s e 0 ≡ numberOf x
-      → (record { refused = numberOf x; moved = 0; state = shut r; handed = none }, b) ≡ told (doRule b r (splice s e vs))
+      → (record { refused = numberOf x; moved = 0; state = shut r; handed = none }, b)
+      ≡ told (doRule b r (splice s e vs))
   unfolding splice
   splice-range x z =
       own-refused b r (splice s e vs) (numberOf x) (some-number x) first
@@ -38,7 +39,8 @@ module _ (b : List ℕ) (r : Rec) (s e : ℕ) (vs : List ℕ) (first : onChange 
   module _ (ranged : inRange (r .len) s e 0 ≡ 0) where
     -- more elements than slots
     pub splice-full : length b < s + length vs + (r .len - e)
-        → (record { refused = numberOf Room; moved = 0; state = shut r; handed = none }, b) ≡ told (doRule b r (splice s e vs))
+        → (record { refused = numberOf Room; moved = 0; state = shut r; handed = none }, b)
+        ≡ told (doRule b r (splice s e vs))
     unfolding splice numberOf
     splice-full lt =
         own-refused b r (splice s e vs) 4 (λ z. omega arith) first (range-go (r .len) s e _ ranged ∙ no-room _ _ lt)
@@ -57,10 +59,15 @@ module _ (b : List ℕ) (r : Rec) (s e : ℕ) (vs : List ℕ) (first : onChange 
         let to-end : s + d ≡ e = omega arith in
         let l = listOf b (r .head) n in
         let new : List ℕ = take s l ++ (vs ++ drop e l) in
-        let many : length new ≡ s + length vs + (n - e) = simp (length-append, length-take, length-drop, length-listOf) (omega arith) in
-        let same-list : take s l ++ (map (numbers .brought) vs ++ drop e l) ≡ new = ap (λ (us : List ℕ). take s l ++ (us ++ drop e l)) (map-brought vs) in
+        let many : length new ≡ s + length vs + (n - e) =
+        simp (length-append, length-take, length-drop, length-listOf) (omega arith) in
+        let same-list : take s l ++ (map (numbers .brought) vs ++ drop e l) ≡ new =
+        ap (λ (us : List ℕ). take s l ++ (us ++ drop e l)) (map-brought vs) in
         let at-slots : b″ ≡ lay b h′ new =
-        laid ∙ ap (λ (k : ℕ). lay b′ (place k h′ s) vs) (c .room .long) ∙ (rw (whole, to-end) at (c .room .laid vs refl)) in
-        accepts b r (splice s e vs) first (range-go n s e _ ranged ∙ some-room _ _ fits) m h″ (s + length vs + (n - e)) r′ none b″ made
+        laid ∙ ap (λ (k : ℕ). lay b′ (place k h′ s) vs) (c .room .long)
+        ∙ (rw (whole, to-end) at (c .room .laid vs refl)) in
+        accepts b r (splice s e vs) first (range-go n s e _ ranged ∙ some-room _ _ fits) m h″ (s + length vs + (n - e))
+        r′ none b″ made
         (over ∙ ap (whether (eqb (s + length vs + (n - e)) 0) 0) (c .head)) refl (c .moved) refl
-        (at-slots ∙ sym (lay-over b h′ _ new many) ∙ ap (λ (g : ℕ). lay b g new) (sym over) ∙ ap (lay b h″) (sym same-list))
+        (at-slots ∙ sym (lay-over b h′ _ new many) ∙ ap (λ (g : ℕ). lay b g new) (sym over)
+        ∙ ap (lay b h″) (sym same-list))

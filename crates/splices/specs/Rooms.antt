@@ -1,4 +1,5 @@
--- The room that a splice makes: r elements of a lent slice replace d behind the first s, in front of the last t. Assumes nothing.
+-- The room that a splice makes: r elements of a lent slice replace
+-- d behind the first s, in front of the last t. Assumes nothing.
 use mathlib.Core.List.{List}
 use mathlib.Core.Path.{_≡_}
 use Prim.Native.Nat.{ℕ, _+_, _-_}
@@ -8,7 +9,8 @@ use Rattle.holes.specs.Holes.{RoomMade}
 use Rattle.rules.specs.Places.{place}
 use Rattle.rules.specs.Choices.{whether}
 
--- head, if something remains: where r < d and s + r < t, the earlier elements move and it steps on by the hole d - r; otherwise as it was
+-- head, if something remains: where r < d and s + r < t, the earlier
+-- elements move and it steps on by the hole d - r; otherwise as it was
 unfoldable pub splicedHead : ℕ → ℕ → ℕ → ℕ → ℕ → ℕ → ℕ
 splicedHead cap h s d r t = whether (ltb r d) (whether (ltb (s + r) t) (place cap h (d - r)) h) h
 

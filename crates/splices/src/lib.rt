@@ -25,8 +25,11 @@ fn make_room(
     new: usize,
     tail: usize,
 ) -> Settled
-    requires { ⌜ (head .0 ≤ length (now slots) - 1) × (start + drained + tail ≤ length (now slots)) × (start + new + tail ≤ length (now slots)) × (length (now slots) ≤ mostSlots) ⌝ }
-    ensures { λ r. ⌜ SpliceMade (now (slots .entry)) (now (slots .exit)) (head .0) start drained new tail (r .head .0) (r .moved) ⌝ }
+    requires { ⌜ (head .0 ≤ length (now slots) - 1) × (start + drained + tail ≤ length (now slots))
+        × (start + new + tail ≤ length (now slots)) × (length (now slots) ≤ mostSlots) ⌝ }
+    ensures { λ r.
+        ⌜ SpliceMade (now (slots .entry)) (now (slots .exit)) (head .0) start drained new tail (r .head .0)
+        (r .moved) ⌝ }
 {
     if new > drained {
         // H = head, h = the first elements, d = the drained ones, n = room for the new ones, t = the tail
@@ -42,8 +45,11 @@ fn make_room(
 
 // Lays the values behind the first `start` elements.
 fn fill(slots: &mut [u32], head: WrappedIndex, start: usize, values: &[u32])
-    requires { ⌜ (head .0 ≤ length (now slots) - 1) × (start + length (now values) ≤ length (now slots)) × (length (now slots) ≤ mostSlots) ⌝ }
-    ensures { λ _. ⌜ now (slots .exit) ≡ lay (now (slots .entry)) (place (length (now (slots .entry))) (head .0) start) (now (values .entry)) ⌝ }
+    requires { ⌜ (head .0 ≤ length (now slots) - 1) × (start + length (now values) ≤ length (now slots))
+        × (length (now slots) ≤ mostSlots) ⌝ }
+    ensures { λ _.
+        ⌜ now (slots .exit)
+        ≡ lay (now (slots .entry)) (place (length (now (slots .entry))) (head .0) start) (now (values .entry)) ⌝ }
 {
     if values.len() == 0 {
         return;
@@ -54,7 +60,9 @@ fn fill(slots: &mut [u32], head: WrappedIndex, start: usize, values: &[u32])
 
 // Replaces the elements from position `start` up to `end` by the values, which may be more or fewer.
 pub fn splice(slots: &mut [u32], q: Deque, start: usize, end: usize, values: &[u32]) -> Change
-    ensures { λ r. ⌜ (ofChange r, now (slots .exit)) ≡ told (doRule (now (slots .entry)) (recOf q) (splice start end (now (values .entry)))) ⌝ }
+    ensures { λ r.
+        ⌜ (ofChange r, now (slots .exit))
+        ≡ told (doRule (now (slots .entry)) (recOf q) (splice start end (now (values .entry)))) ⌝ }
 {
     let cap = slots.len();
     if let Checked::Refused(refusal) = queue::check_change(cap, q) {

@@ -26,7 +26,8 @@ module _ (l d₀ : List ℕ) where
     store i h =
         let cap = length d₀ in
         let many : length (take i l) ≡ i = length-take-le i l (omega arith) in
-        let here : place cap 0 (length (take i l)) ≡ i = wrapped-low cap (0 + length (take i l)) (omega arith) ∙ omega arith in
+        let here : place cap 0 (length (take i l)) ≡ i =
+        wrapped-low cap (0 + length (take i l)) (omega arith) ∙ omega arith in
         sym (ap (lay d₀ 0) (rw add-one (take-suc l i 0 h))
         ∙ write-append cap d₀ 0 (take i l) (getD l i 0 ∷ []) (omega arith) (omega arith)
         ∙ (λ t. write cap (lay d₀ 0 (take i l)) (here t) (getD l i 0 ∷ []))

@@ -19,7 +19,8 @@ pub fn copy_front(dst: &mut [u32], src: &[u32])
     }
 }
 
-// Copies src, which is no longer than a queue may be, into the first slots of dst through a local array: compiled, it is one memmove.
+// Copies src, which is no longer than a queue may be, into the first
+// slots of dst through a local array: compiled, it is one memmove.
 pub fn copy_in(dst: &mut [u32], src: &[u32])
     requires { ⌜ (length (now src) ≤ length (now dst)) × (length (now src) ≤ mostSlots) ⌝ }
     ensures { λ _. ⌜ now (dst .exit) ≡ lay (now (dst .entry)) 0 (now (src .entry)) ⌝ }

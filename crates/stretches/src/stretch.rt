@@ -8,7 +8,8 @@ ghost use lib.ListN.{length};
 ghost use Rattle.rules.specs.Refusals.{mostSlots};
 ghost use Rattle.rules.specs.Slots.{copied};
 
-// Copies the len slots from src on to dst through a local array, so that the two stretches may overlap in any way; neither runs past the last slot.
+// Copies the len slots from src on to dst through a local array, so that the
+// two stretches may overlap in any way; neither runs past the last slot.
 pub fn copy(slots: &mut [u32], src: WrappedIndex, dst: WrappedIndex, len: usize)
     requires { ⌜ (src .0 < length (now slots)) × (dst .0 < length (now slots)) ⌝ }
     requires { ⌜ (src .0 + len ≤ length (now slots)) × (dst .0 + len ≤ length (now slots)) × (len ≤ mostSlots) ⌝ }

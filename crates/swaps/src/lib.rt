@@ -18,7 +18,9 @@ ghost use Rattle.elements.specs.Answers.{ofHanded};
 // Hands over what stands at `at`, and stores there what stands at `from`, which keeps its value.
 fn fill(slots: &mut [u32], at: WrappedIndex, from: WrappedIndex) -> u32
     requires { ⌜ (at .0 < length (now slots)) × (from .0 < length (now slots)) ⌝ }
-    ensures { λ r. ⌜ (r ≡ getD (now (slots .entry)) (at .0) 0) × (now (slots .exit) ≡ set (now (slots .entry)) (at .0) (getD (now (slots .entry)) (from .0) 0)) ⌝ }
+    ensures { λ r.
+        ⌜ (r ≡ getD (now (slots .entry)) (at .0) 0)
+        × (now (slots .exit) ≡ set (now (slots .entry)) (at .0) (getD (now (slots .entry)) (from .0) 0)) ⌝ }
 {
     let a = at.as_index();
     let f = from.as_index();
@@ -54,7 +56,8 @@ pub fn swap(slots: &mut [u32], q: Deque, i: usize, j: usize) -> Change
 
 // Hands the element at position index over, and puts the first one in its place.
 pub fn swap_remove_front(slots: &mut [u32], q: Deque, index: usize) -> Handed
-    ensures { λ r. ⌜ (ofHanded r, now (slots .exit)) ≡ told (doRule (now (slots .entry)) (recOf q) (swapRemoveFront index)) ⌝ }
+    ensures { λ r.
+        ⌜ (ofHanded r, now (slots .exit)) ≡ told (doRule (now (slots .entry)) (recOf q) (swapRemoveFront index)) ⌝ }
 {
     let cap = slots.len();
     if let Checked::Refused(refusal) = queue::check_change(cap, q) {
@@ -79,7 +82,8 @@ pub fn swap_remove_front(slots: &mut [u32], q: Deque, index: usize) -> Handed
 
 // Hands the element at position index over, and puts the last one in its place.
 pub fn swap_remove_back(slots: &mut [u32], q: Deque, index: usize) -> Handed
-    ensures { λ r. ⌜ (ofHanded r, now (slots .exit)) ≡ told (doRule (now (slots .entry)) (recOf q) (swapRemoveBack index)) ⌝ }
+    ensures { λ r.
+        ⌜ (ofHanded r, now (slots .exit)) ≡ told (doRule (now (slots .entry)) (recOf q) (swapRemoveBack index)) ⌝ }
 {
     let cap = slots.len();
     if let Checked::Refused(refusal) = queue::check_change(cap, q) {

@@ -1,5 +1,5 @@
-// The calls that can change one queue, by their value: those on a queue, and those of its open drain. Their answers are told in one
-// form.
+// The calls that can change one queue, by their value: those on a queue,
+// and those of its open drain. Their answers are told in one form.
 use answers::Answer;
 use answers::of_change;
 use answers::of_closed;

@@ -1,4 +1,5 @@
--- THE CODE IS IN THE THEOREM: what sequences of calls of `turn` leave is what the rules' sequences leave, so the theorems of those hold of these. Assumes nothing.
+-- THE CODE IS IN THE THEOREM: what sequences of calls of `turn` leave is what the
+-- rules' sequences leave, so the theorems of those hold of these. Assumes nothing.
 use mathlib.Core.List.{List}
 use mathlib.Core.Path.{_≡_, refl, sym, _∙_, ap, subst}
 use Prim.Native.Nat.{ℕ, _+_}
@@ -12,22 +13,29 @@ use Rattle.turns.specs.Played.{Played, over, played, leftBy}
 use Rattle.answers.specs.declared.pairs.StepAnswer.{StepAnswer}
 
 -- what the contract tells of the queues
-queues-left : (c : CallStep) (r : StepAnswer) (x y : List ℕ) → (ofStepAnswer r, x, y) ≡ toldStep c → leftBy r x y ≡ c .queues
-queues-left c r x y e = ap (λ (t : StepAnswer × List ℕ × List ℕ). pairOf (queueOf (t .1) (t .0 .a)) (queueOf (t .2) (t .0 .b))) e
+queues-left : (c : CallStep) (r : StepAnswer) (x y : List ℕ) → (ofStepAnswer r, x, y) ≡ toldStep c
+    → leftBy r x y ≡ c .queues
+queues-left c r x y e = ap (λ (t : StepAnswer × List ℕ × List ℕ). pairOf (queueOf (t .1) (t .0 .a))
+    (queueOf (t .2) (t .0 .b))) e
 
 -- A sequence of calls of `turn`, each given what the last left, is such a sequence of the rules.
 pub is-run : {s e : Pair} {ts : List Turn} → Played s ts e → run s ts ≡ e
 unfolding run
 is-run over = refl
-is-run (played {s} {e} {ts} d k vs bs r x y f p) = ap (λ (q : Pair). run q ts) (sym (queues-left (step s (turnOf d k vs bs)) r x y f)) ∙ is-run p
+is-run (played {s} {e} {ts} d k vs bs r x y f p) =
+    ap (λ (q : Pair). run q ts) (sym (queues-left (step s (turnOf d k vs bs)) r x y f)) ∙ is-run p
 
--- So condition 3 holds of the code: from any two slot buffers p and q with two fresh queues on, after the first n of any calls ts, for every number x, the times it
--- entered are the times it stands, counted slot by slot in what the code left, and the times it left.
+-- So condition 3 holds of the code: from any two slot buffers p and q with two fresh queues
+-- on, after the first n of any calls ts, for every number x, the times it entered are the
+-- times it stands, counted slot by slot in what the code left, and the times it left.
 pub code-conserves : (x : ℕ) (p q : List ℕ) (ts : List Turn) (n : ℕ) (e : Pair)
     → let s = start p q in
     let u = take n ts in
-    Played s u e → timesEntered x s u ≡ standingSlots x (e .a .slots) (e .a .state) + standingSlots x (e .b .slots) (e .b .state) + timesLeft x s u
+    Played s u e → timesEntered x s u
+    ≡ standingSlots x (e .a .slots) (e .a .state) + standingSlots x (e .b .slots) (e .b .state) + timesLeft x s u
 code-conserves x p q ts n e l =
     let s = start p q in
     let u = take n ts in
-    subst (λ (k : Pair). timesEntered x s u ≡ standingSlots x (k .a .slots) (k .a .state) + standingSlots x (k .b .slots) (k .b .state) + timesLeft x s u) (is-run l) (conserved x p q ts n)
+    subst (λ (k : Pair). timesEntered x s u
+    ≡ standingSlots x (k .a .slots) (k .a .state) + standingSlots x (k .b .slots) (k .b .state) + timesLeft x s u)
+    (is-run l) (conserved x p q ts n)

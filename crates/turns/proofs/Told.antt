@@ -17,14 +17,16 @@ use Rattle.turns.specs.Answers.{oneAnswered, noneAnswered, lookAnswered,
 -- ---- the steps, by their kind: p is the answer in the one form, x and x′ are the slots after
 
 -- a call that can change the first queue leaves the second
-one-told : (q : Queue) (o : Outcome) (p : StepAnswer) (a : Answer) (x : List ℕ) → p ≡ oneAnswered a (q .state) → (a, x) ≡ told o
+one-told : (q : Queue) (o : Outcome) (p : StepAnswer) (a : Answer) (x : List ℕ) → p ≡ oneAnswered a (q .state)
+    → (a, x) ≡ told o
     → (p, x, q .slots) ≡ toldStep (oneStep q o)
 unfolding oneStep
 one-told q o p a x same e =
     (λ i. (same i, x, q .slots)) ∙ ap (λ (t : Answer × List ℕ). (oneAnswered (t .0) (q .state), t .1, q .slots)) e
 
 -- a look leaves both
-look-told : (v w : Queue) (l : Look Sight) (p : StepAnswer) (a : ℕ × Option Sight) → p ≡ lookAnswered a (v .state) (w .state)
+look-told : (v w : Queue) (l : Look Sight) (p : StepAnswer) (a : ℕ × Option Sight)
+    → p ≡ lookAnswered a (v .state) (w .state)
     → a ≡ lookTold l
     → (p, v .slots, w .slots) ≡ toldStep (lookStep v w l)
 unfolding lookStep stillStep
@@ -33,7 +35,8 @@ look-told v w l p a same e =
     ∙ ap (λ (t : ℕ × Option Sight). (lookAnswered t (v .state) (w .state), v .slots, w .slots)) e
 
 -- a call that can change both
-both-told : (h′ : State) (m : PairOutcome) (gone : List ℕ) (p : StepAnswer) (k : PairAnswer) (x x′ : List ℕ) → p ≡ bothAnswered h′ k
+both-told : (h′ : State) (m : PairOutcome) (gone : List ℕ) (p : StepAnswer) (k : PairAnswer) (x x′ : List ℕ)
+    → p ≡ bothAnswered h′ k
     → (k, x, x′) ≡ toldPair m → (p, x, x′) ≡ toldStep (bothStep h′ m gone)
 unfolding bothStep
 both-told h′ m gone p k x x′ same e =

@@ -1,4 +1,5 @@
--- Sequences of calls of the code: each call is given what the last left, and of none more is known than its contract. Assumes nothing.
+-- Sequences of calls of the code: each call is given what the last
+-- left, and of none more is known than its contract. Assumes nothing.
 use mathlib.Core.List.{List, [], _∷_}
 use mathlib.Core.Path.{_≡_}
 use Prim.Native.Nat.{ℕ}
@@ -13,7 +14,8 @@ use Rattle.turn_calls.specs.declared.Side.{Side}
 abbrev pub leftBy : StepAnswer → List ℕ → List ℕ → Pair
 leftBy r x y = pairOf (queueOf x (ofStepAnswer r .a)) (queueOf y (ofStepAnswer r .b))
 
--- from the queues s on, the calls ts were made one after the other, and left e; r, x and y are what a call answered and the slots that it left, as the contract of `turn` has them
+-- from the queues s on, the calls ts were made one after the other, and left e; r, x and y
+-- are what a call answered and the slots that it left, as the contract of `turn` has them
 pub data Played : Pair → List Turn → Pair → Type 0 where
   over : {s : Pair} → Played s [] s
   played : {s e : Pair} {ts : List Turn} (d : Side) (k : Call) (vs bs : List ℕ) (r : StepAnswer) (x y : List ℕ)

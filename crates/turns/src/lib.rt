@@ -1,4 +1,5 @@
-// A call on one of two queues, as a value, and the function that makes it: its contract is the step of the rules' sequences of calls.
+// A call on one of two queues, as a value, and the function that makes
+// it: its contract is the step of the rules' sequences of calls.
 // Not among the calls: a walk's, which keeps a record of its own, and `write_image`, to which bytes are lent to be
 // written.
 mod answering; // answering.rt: the answers of calls that leave a queue, or both, as they are

@@ -1,4 +1,5 @@
-// The face: every public item that a user of the queue names. Each call takes the lent slots, the record by value and its operands, and refuses what can't be met.
+// The face: every public item that a user of the queue names. Each call takes the
+// lent slots, the record by value and its operands, and refuses what can't be met.
 
 // The record, its place, the answers and the refusals.
 pub use elements::Found;

@@ -1,4 +1,5 @@
--- A walk by value that a call gave back, and the `Iterator` that is made of it and of the slots, as the proofs by hand of `iter` and `rest` hold them. Assumes nothing.
+-- A walk by value that a call gave back, and the `Iterator` that is made of it and of
+-- the slots, as the proofs by hand of `iter` and `rest` hold them. Assumes nothing.
 use mathlib.Core.List.{List, [], _∷_}
 use mathlib.Core.Path.{_≡_, subst}
 use Prim.Native.Nat.{ℕ}
@@ -40,14 +41,19 @@ Slots κ s = ShrSlice (named 0) κ u32 .own s (sliceVal (s .ptr) (length (s .now
 pub walk-is : (r : Walk) (u : Val) → Is N.the-row r (u ∷ []) → Is N.the-row r (N′.lowered r ∷ [])
 walk-is r u is = subst (λ (us : List Val). Is N.the-row r us) (LL.tells N.the-type N′.the-laws r (u ∷ []) is) is
 
-module _ {M : Type 1} (𝓤 : URA M) (H : Heap 𝓤) (A : Atoms 𝓤) (W : Given 𝓤 H A) (r : Walk) (is : Is N.the-row r (N′.lowered r ∷ [])) where
+module _ {M : Type 1} (𝓤 : URA M) (H : Heap 𝓤) (A : Atoms 𝓤) (W : Given 𝓤 H A) (r : Walk)
+    (is : Is N.the-row r (N′.lowered r ∷ [])) where
   pub walk-typed : Holds (hasTy N′.mir (N′.lowered r)) × WT (N′.lowered r)
   walk-typed = LL.lawful N.the-type N′.the-laws 𝓤 H A W .typed r _ is .0
 
   -- what the slots own, with the facts of the walk, is what the struct owns
-  pub lends : (κ : Lft) (s : RefT (List ℕ)) → ent 𝓤 (sem 𝓤 H A (Slots κ s)) (sem 𝓤 H A (T.the-row (namedLft 1 0 tt (κ, tt)) .own (lent s r) (T′.lowered (lent s r) ∷ [])))
+  pub lends : (κ : Lft) (s : RefT (List ℕ))
+      → ent 𝓤 (sem 𝓤 H A (Slots κ s))
+      (sem 𝓤 H A (T.the-row (namedLft 1 0 tt (κ, tt)) .own (lent s r) (T′.lowered (lent s r) ∷ [])))
   lends κ s =
       let ends : Values (N.the-type .parts) = (r .queue, (r .low, (r .high, tt))) in
       qed W (‵ (Slots κ s) ∷ []) ∵ owned ! N.the-row (Is N.the-row) (LL.makes N.the-type N′.the-plain 𝓤 H A) r _ is $
-      use1 W (given (N′.lowered r ∷ [] ≡ N′.lowered r ∷ []) (‵ (all-own (N.the-type .parts) N′.the-laws ends))) (own-open 𝓤 H A W N.the-type N′.the-laws ends (N′.lowered r)) $ learn ! (λ _.
-      move ! (1 ∷ 0 ∷ []) $ fjoin ! $ by ! (own-shut 𝓤 H A W (T.the-type (namedLft 1 0 tt (κ, tt))) (T′.the-laws (namedLft 1 0 tt (κ, tt))) (s, ends)))
+      use1 W (given (N′.lowered r ∷ [] ≡ N′.lowered r ∷ []) (‵ (all-own (N.the-type .parts) N′.the-laws ends)))
+      (own-open 𝓤 H A W N.the-type N′.the-laws ends (N′.lowered r)) $ learn ! (λ _.
+      move ! (1 ∷ 0 ∷ []) $ fjoin ! $ by !
+      (own-shut 𝓤 H A W (T.the-type (namedLft 1 0 tt (κ, tt))) (T′.the-laws (namedLft 1 0 tt (κ, tt))) (s, ends)))

@@ -1,4 +1,5 @@
--- `Steps`: a law for each return. `Whole`: what a walk gives from its ends. `Lent`, `Stepping`: the proofs by hand of the borrowing walk.
+-- `Steps`: a law for each return. `Whole`: what a walk gives from its
+-- ends. `Lent`, `Stepping`: the proofs by hand of the borrowing walk.
 pub mod Steps
 pub mod Whole
 pub mod Lent

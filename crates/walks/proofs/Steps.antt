@@ -73,15 +73,22 @@ abbrev giving : End → List ℕ → Walk → WalkStep
 giving e b w = record { refused = 0; walk = walkAfter e w; gives = some (getD (held b (w .rec)) (nextAt e w) 0) }
 
 step-is : (e : End) (b : List ℕ) (w : Walk)
-    → stepAt e b w ≡ unless (onWalk (length b) w) (whether (ltb (w .low) (w .high)) (giving e b w) (sameWalk w 0)) (sameWalk w (onWalk (length b) w))
+    → stepAt e b w ≡ unless (onWalk (length b) w) (whether (ltb (w .low) (w .high)) (giving e b w) (sameWalk w 0))
+    (sameWalk w (onWalk (length b) w))
 unfolding nextStep nextBackStep
 step-is front b w = refl
 step-is back b w = refl
 
 module _ (e : End) (b : List ℕ) (w : Walk) where
-  pub step-refused : (x : Refusal) → onWalk (length b) w ≡ numberOf x → record { refused = numberOf x; walk = w; gives = none } ≡ stepAt e b w
+  pub step-refused : (x : Refusal) → onWalk (length b) w ≡ numberOf x
+      → record { refused = numberOf x; walk = w; gives = none } ≡ stepAt e b w
   unfolding sameWalk
-  step-refused x z = sym (step-is e b w ∙ rw (z, unless-stop (numberOf x) (whether (ltb (w .low) (w .high)) (giving e b w) (sameWalk w 0)) (sameWalk w (numberOf x)) (some-number x)))
+  step-refused x z = sym (step-is e b w
+      ∙ rw (
+        z,
+        unless-stop (numberOf x) (whether (ltb (w .low) (w .high)) (giving e b w) (sameWalk w 0))
+            (sameWalk w (numberOf x)) (some-number x),
+      ))
 
   module _ (z : onWalk (length b) w ≡ 0) where
     pub nothing-left : w .low ≡ w .high → record { refused = 0; walk = w; gives = none } ≡ stepAt e b w
@@ -91,4 +98,5 @@ module _ (e : End) (b : List ℕ) (w : Walk) where
     pub one-given : (v : ℕ) → w .low ≢ w .high → v ≡ getD (held b (w .rec)) (nextAt e w) 0
         → record { refused = 0; walk = walkAfter e w; gives = some v } ≡ stepAt e b w
     unfolding unless whether
-    one-given v apart at-v = let k = walkable b w z in sym (step-is e b w ∙ rw (z, lt-ltb (w .low) (w .high) (omega arith), at-v))
+    one-given v apart at-v = let k = walkable b w z in sym
+        (step-is e b w ∙ rw (z, lt-ltb (w .low) (w .high) (omega arith), at-v))

@@ -1,4 +1,5 @@
--- What a walk gives: from either end what is left, to the last; so a whole walk gives the list in order. Assumes nothing.
+-- What a walk gives: from either end what is left, to the last;
+-- so a whole walk gives the list in order. Assumes nothing.
 use mathlib.Core.List.{List, [], _∷_, _++_}
 use mathlib.Core.Logic.{⊎-elim}
 use mathlib.Core.Option.{Option, none, some}
@@ -44,11 +45,13 @@ module _ (b : List ℕ) (w : Walk) (z : onWalk (length b) w ≡ 0) where
       ∙ ap (λ (v : ℕ). take n (drop (w .low) l) ++ v ∷ []) (getD-drop (w .low) l n 0 ∙ ap (λ (i : ℕ). getD l i 0) there)
 
   none-ahead : w .high ≤ w .low → ahead b w ≡ []
-  none-ahead le = let none-left : w .high - w .low ≡ 0 = omega arith in ap (λ (n : ℕ). take n (drop (w .low) (held b (w .rec)))) none-left
+  none-ahead le = let none-left : w .high - w .low ≡ 0 =
+      omega arith in ap (λ (n : ℕ). take n (drop (w .low) (held b (w .rec)))) none-left
 
   -- by cases: nothing is left, and a step changes nothing; or it gives one
   by-cases : (e : End) (P : WalkStep → Type 0) → (ahead b w ≡ [] → P (record { refused = 0; walk = w; gives = none }))
-      → (w .low < w .high → P (record { refused = 0; walk = walkAfter e w; gives = some (getD (held b (w .rec)) (nextAt e w) 0) })) → P (stepAt e b w)
+      → (w .low < w .high → P (record
+      { refused = 0; walk = walkAfter e w; gives = some (getD (held b (w .rec)) (nextAt e w) 0) })) → P (stepAt e b w)
   by-cases e P f g =
       let k = walkable b w z in
       ⊎-elim (λ lt. subst P (one-given e b w z _ (λ same. omega arith) refl) (g lt))
@@ -57,20 +60,25 @@ module _ (b : List ℕ) (w : Walk) (z : onWalk (length b) w ≡ 0) where
   -- `next` gives the first of what is left, and leaves the others
   pub next-takes : ahead b w ≡ asList (nextStep b w .gives) ++ ahead b (nextStep b w .walk)
   unfolding asList
-  next-takes = by-cases front (λ (s : WalkStep). ahead b w ≡ asList (s .gives) ++ ahead b (s .walk)) (λ _. refl) takes-first
+  next-takes = by-cases front (λ (s : WalkStep). ahead b w ≡ asList (s .gives) ++ ahead b (s .walk)) (λ _. refl)
+      takes-first
 
   -- `next_back` gives the last, and leaves the others
   pub next-back-takes : ahead b w ≡ ahead b (nextBackStep b w .walk) ++ asList (nextBackStep b w .gives)
   unfolding asList
-  next-back-takes = by-cases back (λ (s : WalkStep). ahead b w ≡ ahead b (s .walk) ++ asList (s .gives)) (λ e. e ∙ sym (ap (λ (l : List ℕ). l ++ []) e)) takes-last
+  next-back-takes = by-cases back (λ (s : WalkStep). ahead b w ≡ ahead b (s .walk) ++ asList (s .gives))
+      (λ e. e ∙ sym (ap (λ (l : List ℕ). l ++ []) e)) takes-last
 
   -- Nothing comes only where nothing is left
   pub nothing-ahead : (e : End) → stepAt e b w .gives ≡ none → ahead b w ≡ []
-  nothing-ahead e = by-cases e (λ (s : WalkStep). s .gives ≡ none → ahead b w ≡ []) (λ none-left _. none-left) (λ lt same. cc)
+  nothing-ahead e = by-cases e (λ (s : WalkStep). s .gives ≡ none → ahead b w ≡ []) (λ none-left _. none-left)
+      (λ lt same. cc)
 
   after-good : (e : End) → w .low < w .high → onWalk (length b) (walkAfter e w) ≡ 0
-  after-good front lt = let k = walkable b w z in sym (none-stops (length b) (walkAfter front w) (k .first) (omega arith) (omega arith))
-  after-good back lt = let k = walkable b w z in sym (none-stops (length b) (walkAfter back w) (k .first) (omega arith) (omega arith))
+  after-good front lt = let k = walkable b w z in sym
+      (none-stops (length b) (walkAfter front w) (k .first) (omega arith) (omega arith))
+  after-good back lt = let k = walkable b w z in sym
+      (none-stops (length b) (walkAfter back w) (k .first) (omega arith) (omega arith))
 
   -- the walk after a step is good
   pub goes-on : (e : End) → onWalk (length b) (stepAt e b w .walk) ≡ 0
@@ -81,7 +89,8 @@ unfoldable pub fronts : ℕ → List ℕ → Walk → List ℕ
 fronts zero b w = []
 fronts (suc n) b w = asList (nextStep b w .gives) ++ fronts n b (nextStep b w .walk)
 
-one-more : (n : ℕ) (v : Option ℕ) (l m : List ℕ) → l ≡ asList v ++ m → (v ≡ none → l ≡ []) → asList v ++ take n m ≡ take (suc n) l
+one-more : (n : ℕ) (v : Option ℕ) (l m : List ℕ) → l ≡ asList v ++ m → (v ≡ none → l ≡ [])
+    → asList v ++ take n m ≡ take (suc n) l
 unfolding asList
 one-more n none l m e f = ap (take n) (sym e ∙ f refl) ∙ take-all n [] (omega arith) ∙ sym (ap (take (suc n)) (f refl))
 one-more n (some v) l m e f = ap (take (suc n)) (sym e)
@@ -89,7 +98,9 @@ one-more n (some v) l m e f = ap (take (suc n)) (sym e)
 pub fronts-are : (n : ℕ) (b : List ℕ) (w : Walk) → onWalk (length b) w ≡ 0 → fronts n b w ≡ take n (ahead b w)
 unfolding fronts
 fronts-are zero b w z = refl
-fronts-are (suc n) b w z = ap (λ (l : List ℕ). asList (nextStep b w .gives) ++ l) (fronts-are n b (nextStep b w .walk) (goes-on b w z front)) ∙ one-more n _ _ _ (next-takes b w z) (nothing-ahead b w z front)
+fronts-are (suc n) b w z = ap (λ (l : List ℕ). asList (nextStep b w .gives) ++ l)
+    (fronts-are n b (nextStep b w .walk) (goes-on b w z front))
+    ∙ one-more n _ _ _ (next-takes b w z) (nothing-ahead b w z front)
 
 -- what a whole walk has still to give is the list
 pub whole-ahead : (b : List ℕ) (r : Rec) → ahead b (wholeWalk r) ≡ held b r

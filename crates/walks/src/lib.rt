@@ -113,7 +113,9 @@ pub fn iter<'a>(slots: &'a [u32], q: Deque) -> Iterator<'a>
 impl<'a> Iterator<'a> {
     // Gives the element at the low end, which steps on by one.
     pub fn next(self) -> IteratorStep<'a>
-        ensures { λ r. ⌜ (r .slots ≡ self .entry .slots) × (ofStepped (r .step) ≡ nextStep (now (self .entry .slots)) (walkIn (self .entry))) ⌝ }
+        ensures { λ r.
+            ⌜ (r .slots ≡ self .entry .slots)
+            × (ofStepped (r .step) ≡ nextStep (now (self .entry .slots)) (walkIn (self .entry))) ⌝ }
     {
         let w = Walk {
             queue: self.queue,
@@ -128,7 +130,9 @@ impl<'a> Iterator<'a> {
 
     // Gives the element before the high end, which steps back by one.
     pub fn next_back(self) -> IteratorStep<'a>
-        ensures { λ r. ⌜ (r .slots ≡ self .entry .slots) × (ofStepped (r .step) ≡ nextBackStep (now (self .entry .slots)) (walkIn (self .entry))) ⌝ }
+        ensures { λ r.
+            ⌜ (r .slots ≡ self .entry .slots)
+            × (ofStepped (r .step) ≡ nextBackStep (now (self .entry .slots)) (walkIn (self .entry))) ⌝ }
     {
         let w = Walk {
             queue: self.queue,

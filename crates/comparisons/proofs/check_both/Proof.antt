@@ -14,7 +14,8 @@ enum-known-refusal : tie.Need-enum-known-refusal
 enum-known-refusal c = search needs
 
 returns : tie.Need-returns
-returns c = sym (queue-stop _ _ _ _ (some-number _) (failed-number _ _ _ (c .before .before .before .check .ensures) (c .before .refusal .given .1)))
+returns c = sym (queue-stop _ _ _ _ (some-number _)
+    (failed-number _ _ _ (c .before .before .before .check .ensures) (c .before .refusal .given .1)))
 
 enum-told : tie.Need-enum-told
 enum-told c = search needs
@@ -23,7 +24,9 @@ check-requires-2 : tie.Need-check-requires-2
 check-requires-2 c κs = search needs
 
 returns-2 : tie.Need-returns-2
-returns-2 c = c .check2 .ensures ∙ sym (queue-go _ _ _ (passed-zero _ _ (c .before .before .before .check .ensures) (c .before .enum-told .given .1)))
+returns-2 c = c .check2 .ensures
+    ∙ sym (queue-go _ _ _ (passed-zero _ _ (c .before .before .before .check .ensures)
+    (c .before .enum-told .given .1)))
 
 pub check-both-spec : {M : Type 1} → statement M
 check-both-spec =

@@ -13,11 +13,16 @@ use Rattle.drains.proofs.drain.Statement.{statement}
 use Rattle.drains.proofs.drain.Tie as tie
 
 -- past the first tests nothing is refused
-past : (c : tie.After-enum-told) → onChange (length (now (c .before .before .before .before .args .slots))) (recOf (c .before .before .before .before .args .q)) 0 ≡ 0
+past : (c : tie.After-enum-told)
+    → onChange (length (now (c .before .before .before .before .args .slots)))
+    (recOf (c .before .before .before .before .args .q)) 0 ≡ 0
 past c = passed-zero _ _ (c .before .before .check-change .ensures) (c .enum-told .given .1)
 
 -- past the range test it is a range
-ranged : (c : tie.After-enum-told2) → inRange (c .before .before .before .before .before .before .before .args .q .len) (c .before .before .before .before .before .before .before .args .start) (c .before .before .before .before .before .before .before .args .end) 0 ≡ 0
+ranged : (c : tie.After-enum-told2)
+    → inRange (c .before .before .before .before .before .before .before .args .q .len)
+    (c .before .before .before .before .before .before .before .args .start)
+    (c .before .before .before .before .before .before .before .args .end) 0 ≡ 0
 ranged c = passed-zero _ _ (c .before .before .check-range .ensures) (c .enum-told2 .given .1)
 
 check-change-requires : tie.Need-check-change-requires
@@ -39,7 +44,8 @@ enum-known-refusal-2 : tie.Need-enum-known-refusal-2
 enum-known-refusal-2 c = search needs
 
 returns-2 : tie.Need-returns-2
-returns-2 c = open-range _ _ _ _ (past (c .before .before .before .before)) _ (failed-number _ _ _ (c .before .before .before .check-range .ensures) (c .before .refusal2 .given .1))
+returns-2 c = open-range _ _ _ _ (past (c .before .before .before .before)) _
+    (failed-number _ _ _ (c .before .before .before .check-range .ensures) (c .before .refusal2 .given .1))
 
 enum-told-2 : tie.Need-enum-told-2
 enum-told-2 c = search needs

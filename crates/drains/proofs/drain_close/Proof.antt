@@ -15,10 +15,14 @@ use Rattle.drains.proofs.drain_close.Statement.{statement}
 use Rattle.drains.proofs.drain_close.Tie as tie
 
 -- past the tests nothing is refused, and the record is good
-past : (c : tie.After-enum-told) → onDrain (length (now (c .before .before .before .before .args .slots))) (drainOf (c .before .before .before .before .args .d)) ≡ 0
+past : (c : tie.After-enum-told)
+    → onDrain (length (now (c .before .before .before .before .args .slots)))
+    (drainOf (c .before .before .before .before .args .d)) ≡ 0
 past c = passed-zero _ _ (c .before .before .check-drain .ensures) (c .enum-told .given .1)
 
-good : (c : tie.After-enum-told) → GoodDrain (length (now (c .before .before .before .before .args .slots))) (drainOf (c .before .before .before .before .args .d))
+good : (c : tie.After-enum-told)
+    → GoodDrain (length (now (c .before .before .before .before .args .slots)))
+    (drainOf (c .before .before .before .before .args .d))
 good c = drain-ok _ _ (past c) .1
 
 check-drain-requires : tie.Need-check-drain-requires
@@ -44,7 +48,8 @@ same-length : tie.Need-same-length
 same-length c = search needs
 
 returns-2 : tie.Need-returns-2
-returns-2 c = drain-closed _ _ _ _ _ _ (past (c .before .before .before .before .before .before .before)) (c .before .before .before .before .close-hole .ensures) (c .closed-record .ensures)
+returns-2 c = drain-closed _ _ _ _ _ _ (past (c .before .before .before .before .before .before .before))
+    (c .before .before .before .before .close-hole .ensures) (c .closed-record .ensures)
 
 pub drain-close-spec : {M : Type 1} → statement M
 drain-close-spec =

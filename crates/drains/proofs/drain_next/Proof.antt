@@ -15,10 +15,14 @@ use Rattle.drains.proofs.drain_next.Statement.{statement}
 use Rattle.drains.proofs.drain_next.Tie as tie
 
 -- past the tests nothing is refused, and the record is good
-past : (c : tie.After-enum-told) → onDrain (length (now (c .before .before .before .before .args .slots))) (drainOf (c .before .before .before .before .args .d)) ≡ 0
+past : (c : tie.After-enum-told)
+    → onDrain (length (now (c .before .before .before .before .args .slots)))
+    (drainOf (c .before .before .before .before .args .d)) ≡ 0
 past c = passed-zero _ _ (c .before .before .check-drain .ensures) (c .enum-told .given .1)
 
-good : (c : tie.After-enum-told) → GoodDrain (length (now (c .before .before .before .before .args .slots))) (drainOf (c .before .before .before .before .args .d))
+good : (c : tie.After-enum-told)
+    → GoodDrain (length (now (c .before .before .before .before .args .slots)))
+    (drainOf (c .before .before .before .before .args .d))
 good c = drain-ok _ _ (past c) .1
 
 check-drain-requires : tie.Need-check-drain-requires
@@ -51,7 +55,8 @@ from-front-requires c κs = let g = good (c .before .before .before .before) in 
 
 returns-3 : tie.Need-returns-3
 returns-3 c =
-    next-some _ _ (past (c .before .before .before .before .before)) _ _ (c .from-front .ensures) (c .before .before .before .if1 .left)
+    next-some _ _ (past (c .before .before .before .before .before)) _ _ (c .from-front .ensures)
+    (c .before .before .before .if1 .left)
     _ (c .before .before .as-opened .ensures) (c .before .element .ensures)
 
 pub drain-next-spec : {M : Type 1} → statement M

@@ -15,10 +15,14 @@ use Rattle.drains.proofs.drain_next_back.Statement.{statement}
 use Rattle.drains.proofs.drain_next_back.Tie as tie
 
 -- past the tests nothing is refused, and the record is good
-past : (c : tie.After-enum-told) → onDrain (length (now (c .before .before .before .before .args .slots))) (drainOf (c .before .before .before .before .args .d)) ≡ 0
+past : (c : tie.After-enum-told)
+    → onDrain (length (now (c .before .before .before .before .args .slots)))
+    (drainOf (c .before .before .before .before .args .d)) ≡ 0
 past c = passed-zero _ _ (c .before .before .check-drain .ensures) (c .enum-told .given .1)
 
-good : (c : tie.After-enum-told) → GoodDrain (length (now (c .before .before .before .before .args .slots))) (drainOf (c .before .before .before .before .args .d))
+good : (c : tie.After-enum-told)
+    → GoodDrain (length (now (c .before .before .before .before .args .slots)))
+    (drainOf (c .before .before .before .before .args .d))
 good c = drain-ok _ _ (past c) .1
 
 check-drain-requires : tie.Need-check-drain-requires
@@ -58,7 +62,8 @@ from-back-requires c κs = search needs
 returns-3 : tie.Need-returns-3
 returns-3 c =
     next-back-some _ _ (past (c .before .before .before .before .before .before .before)) _ _ (c .from-back .ensures)
-    (c .before .before .before .before .before .if1 .left) _ (c .before .before .as-opened .ensures) (c .before .element .ensures)
+    (c .before .before .before .before .before .if1 .left) _ (c .before .before .as-opened .ensures)
+    (c .before .element .ensures)
 
 pub drain-next-back-spec : {M : Type 1} → statement M
 drain-next-back-spec =

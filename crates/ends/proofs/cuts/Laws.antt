@@ -20,20 +20,23 @@ use Rattle.rules.specs.Choices.{whether}
 
 module _ (b : List ℕ) (r : Rec) (first : onChange (length b) r 0 ≡ 0) where
   -- as many as there are, or more
-  pub all-kept : (k : ℕ) → r .len ≤ k → (record { refused = 0; moved = 0; state = shut r; handed = none }, b) ≡ told (doRule b r (truncate k))
+  pub all-kept : (k : ℕ) → r .len ≤ k
+      → (record { refused = 0; moved = 0; state = shut r; handed = none }, b) ≡ told (doRule b r (truncate k))
   unfolding truncate held
   all-kept k le =
       accepts-same b r (truncate k) first refl refl (omega arith) refl refl
       (take-all k (listOf b (r .head) (r .len)) (omega (arith, length-listOf b (r .head) (r .len))))
 
-  pub front-kept : (k : ℕ) → r .len ≤ k → (record { refused = 0; moved = 0; state = shut r; handed = none }, b) ≡ told (doRule b r (truncateFront k))
+  pub front-kept : (k : ℕ) → r .len ≤ k
+      → (record { refused = 0; moved = 0; state = shut r; handed = none }, b) ≡ told (doRule b r (truncateFront k))
   unfolding truncateFront held whether
   front-kept k le =
       let no-one : length (listOf b (r .head) (r .len)) - k ≡ 0 = omega (arith, length-listOf b (r .head) (r .len)) in
       accepts-same b r (truncateFront k) first refl (rw (le-leb (r .len) k le)) (omega arith) refl refl (rw no-one)
 
   -- the first k stand where they stood
-  pub back-cut : (k : ℕ) (r′ : Rec) → k < r .len → r′ ≡ stepped r (r .head) k → (record { refused = 0; moved = 0; state = shut r′; handed = none }, b) ≡ told (doRule b r (truncate k))
+  pub back-cut : (k : ℕ) (r′ : Rec) → k < r .len → r′ ≡ stepped r (r .head) k
+      → (record { refused = 0; moved = 0; state = shut r′; handed = none }, b) ≡ told (doRule b r (truncate k))
   unfolding truncate held
   back-cut k r′ lt made =
       let g = fine-change b r first .good in
@@ -49,10 +52,14 @@ module _ (b : List ℕ) (r : Rec) (first : onChange (length b) r 0 ≡ 0) where
       let g = fine-change b r first .good in
       let h = r .head in
       let n = r .len in
-      accepts b r (truncateFront k) first refl 0 p k r′ none b made (at-p ∙ sym (rw (lt-leb n k lt))) (omega arith) refl refl
-      (rw (at-p, length-listOf) (sym (ap (lay b (place (length b) h (n - k))) (listOf-drop b h (omega arith) (n - k) n (omega arith) (g .fits)) ∙ lay-own b (place (length b) h (n - k)) (n - (n - k)))))
+      accepts b r (truncateFront k) first refl 0 p k r′ none b made (at-p ∙ sym (rw (lt-leb n k lt))) (omega arith) refl
+      refl
+      (rw (at-p, length-listOf) (sym
+      (ap (lay b (place (length b) h (n - k))) (listOf-drop b h (omega arith) (n - k) n (omega arith) (g .fits))
+      ∙ lay-own b (place (length b) h (n - k)) (n - (n - k)))))
 
   -- none is kept, and the next one will stand in the first slot
-  pub cleared : (p : ℕ) (r′ : Rec) → p ≡ 0 → r′ ≡ stepped r p 0 → (record { refused = 0; moved = 0; state = shut r′; handed = none }, b) ≡ told (doRule b r clear)
+  pub cleared : (p : ℕ) (r′ : Rec) → p ≡ 0 → r′ ≡ stepped r p 0
+      → (record { refused = 0; moved = 0; state = shut r′; handed = none }, b) ≡ told (doRule b r clear)
   unfolding clear
   cleared p r′ at-p made = accepts b r clear first refl 0 p 0 r′ none b made at-p refl refl refl (sym (lay-none b p))

@@ -31,11 +31,13 @@ use Rattle.elements.specs.declared.answers.Handed.the-variants.{Number, Nothing
 -- ---- one law for each return of `only_if`
 
 module _ (t : Test) (q : Deque) (p : Handed) where
-  pub kept : (v : ℕ) (q′ : Deque) (m : ℕ) (c : Bool) → p ≡ Number v q′ m → c ≡ meets t v → c ≡ true → Number v q′ m ≡ onlyIf t q p
+  pub kept : (v : ℕ) (q′ : Deque) (m : ℕ) (c : Bool) → p ≡ Number v q′ m → c ≡ meets t v → c ≡ true
+      → Number v q′ m ≡ onlyIf t q p
   unfolding onlyIf whether
   kept v q′ m c is asked met = rw (is, sym asked ∙ met)
 
-  pub dropped : (v : ℕ) (q′ : Deque) (m : ℕ) (c : Bool) → p ≡ Number v q′ m → c ≡ meets t v → c ≡ false → Nothing q 0 ≡ onlyIf t q p
+  pub dropped : (v : ℕ) (q′ : Deque) (m : ℕ) (c : Bool) → p ≡ Number v q′ m → c ≡ meets t v → c ≡ false
+      → Nothing q 0 ≡ onlyIf t q p
   unfolding onlyIf whether
   dropped v q′ m c is asked unmet = rw (is, sym asked ∙ unmet)
 
@@ -59,7 +61,8 @@ record Conditional (t : Test) (R S : Rule) (c h n : ℕ) (l : List ℕ) : Type 0
   handed : S .handed l ≡ whether (passes (meets t) (R .handed l)) (R .handed l) none
   list : after S l ≡ whether (passes (meets t) (R .handed l)) (after R l) l
 
-module _ (b : List ℕ) (q : Deque) (t : Test) (R S : Rule) (k : Conditional t R S (length b) (q .head .0) (q .len) (held b (recOf q))) where
+module _ (b : List ℕ) (q : Deque) (t : Test) (R S : Rule)
+    (k : Conditional t R S (length b) (q .head .0) (q .len) (held b (recOf q))) where
   -- p is what R answers
   abbrev Popped : Handed → Type 0
   Popped p = (ofHanded p, b) ≡ told (doRule b (recOf q) R)
@@ -75,19 +78,22 @@ module _ (b : List ℕ) (q : Deque) (t : Test) (R S : Rule) (k : Conditional t R
   met : fits ≡ true → told (doRule b (recOf q) R) ≡ told (doRule b (recOf q) S)
   unfolding fits whether
   met e =
-      alike b (recOf q) R S (k .free ∙ sym (k .free-too)) (sym (k .head ∙ rw e)) (sym (k .len ∙ rw e)) (sym (k .moved ∙ rw e)) (sym (k .handed ∙ rw e)) (sym (k .list ∙ rw e))
+      alike b (recOf q) R S (k .free ∙ sym (k .free-too)) (sym (k .head ∙ rw e)) (sym (k .len ∙ rw e))
+      (sym (k .moved ∙ rw e)) (sym (k .handed ∙ rw e)) (sym (k .list ∙ rw e))
 
   unmet : onChange (length b) (recOf q) 0 ≡ 0 → fits ≡ false → (ofHanded (Nothing q 0), b) ≡ told (doRule b (recOf q) S)
   unfolding fits whether
   unmet first e =
-      accepts-same b (recOf q) S first (k .free-too) (k .head ∙ rw e) (k .len ∙ rw e) (k .moved ∙ rw e) (k .handed ∙ rw e) (k .list ∙ rw e)
+      accepts-same b (recOf q) S first (k .free-too) (k .head ∙ rw e) (k .len ∙ rw e) (k .moved ∙ rw e)
+      (k .handed ∙ rw e) (k .list ∙ rw e)
 
   -- refused by the tests of slots and record: both are
   stopped : (n : ℕ) → onChange (length b) (recOf q) 0 ≡ suc n → (p : Handed) → Popped p → Decided p
   unfolding onlyIf
   stopped n first = go
     where
-      refused : (S : Rule) → (record { refused = suc n; moved = 0; state = shut (recOf q); handed = none }, b) ≡ told (doRule b (recOf q) S)
+      refused : (S : Rule) → (record { refused = suc n; moved = 0; state = shut (recOf q); handed = none }, b)
+          ≡ told (doRule b (recOf q) S)
       refused S = first-refused b (recOf q) S (suc n) (suc-ne-zero n) first
 
       no : (p : Handed) → Popped p → ofHanded p .refused ≡ suc n
@@ -99,7 +105,8 @@ module _ (b : List ℕ) (q : Deque) (t : Test) (R S : Rule) (k : Conditional t R
       go (Refused x q′ m) e = e ∙ sym (refused R) ∙ refused S
 
   -- accepted: the answer has no refusal, and hands over what R does
-  seen : onChange (length b) (recOf q) 0 ≡ 0 → (p : Handed) → Popped p → (ofHanded p .refused ≡ 0) × (ofHanded p .handed ≡ R .handed (held b (recOf q)))
+  seen : onChange (length b) (recOf q) 0 ≡ 0 → (p : Handed) → Popped p
+      → (ofHanded p .refused ≡ 0) × (ofHanded p .handed ≡ R .handed (held b (recOf q)))
   seen first p e =
       let f = e ∙ sym (accepts b (recOf q) R first (k .free) _ _ _ _ _ _ refl refl refl refl refl refl) in
       (ap (λ (o : Answer × List ℕ). o .0 .refused) f, ap (λ (o : Answer × List ℕ). o .0 .handed) f)
@@ -109,7 +116,8 @@ module _ (b : List ℕ) (q : Deque) (t : Test) (R S : Rule) (k : Conditional t R
   unfolding onlyIf passes whether fits
   decided first = go
     where
-      by : (v : ℕ) (q′ : Deque) (m : ℕ) (c : Bool) → meets t v ≡ c → Popped (Number v q′ m) → (ofHanded (whether c (Number v q′ m) (Nothing q 0)), b) ≡ told (doRule b (recOf q) S)
+      by : (v : ℕ) (q′ : Deque) (m : ℕ) (c : Bool) → meets t v ≡ c → Popped (Number v q′ m)
+          → (ofHanded (whether c (Number v q′ m) (Nothing q 0)), b) ≡ told (doRule b (recOf q) S)
       by v q′ m true y e = e ∙ met (ap (passes (meets t)) (sym (seen first (Number v q′ m) e .1)) ∙ y)
       by v q′ m false y e = unmet first (ap (passes (meets t)) (sym (seen first (Number v q′ m) e .1)) ∙ y)
 
@@ -131,22 +139,41 @@ either false a = refl
 
 -- where an element meets the test there is one, and head steps on
 steps : (t : Test) (b : List ℕ) (h n : ℕ)
-    → whether (passes (meets t) (getElem? (listOf b h n) 0)) (place (length b) h 1) h ≡ whether (passes (meets t) (getElem? (listOf b h n) 0)) (whether (eqb n 0) h (place (length b) h 1)) h
+    → whether (passes (meets t) (getElem? (listOf b h n) 0)) (place (length b) h 1) h
+    ≡ whether (passes (meets t) (getElem? (listOf b h n) 0)) (whether (eqb n 0) h (place (length b) h 1)) h
 unfolding read passes whether
 steps t b h zero = refl
 steps t b h (suc n) = rw (ne-eqb (suc n) 0 (λ e. omega arith))
 
 module _ (b : List ℕ) (q : Deque) (t : Test) (p a : Handed) (is : a ≡ onlyIf t q p) where
-  pub front-only-if : (ofHanded p, b) ≡ told (doRule b (recOf q) popFront) → (ofHanded a, b) ≡ told (doRule b (recOf q) (popFrontIf t))
+  pub front-only-if : (ofHanded p, b) ≡ told (doRule b (recOf q) popFront)
+      → (ofHanded a, b) ≡ told (doRule b (recOf q) (popFrontIf t))
   unfolding popFront popFrontIf held
   front-only-if e =
       rw is
       (only-if b q t popFront (popFrontIf t)
-      (record { free = refl; free-too = refl; head = steps t b (q .head .0) (q .len); len = refl; moved = either _ 0; handed = refl; list = refl }) _ refl p e)
+      (record {
+        free = refl;
+        free-too = refl;
+        head = steps t b (q .head .0) (q .len);
+        len = refl;
+        moved = either _ 0;
+        handed = refl;
+        list = refl;
+      }) _ refl p e)
 
-  pub back-only-if : (ofHanded p, b) ≡ told (doRule b (recOf q) popBack) → (ofHanded a, b) ≡ told (doRule b (recOf q) (popBackIf t))
+  pub back-only-if : (ofHanded p, b) ≡ told (doRule b (recOf q) popBack)
+      → (ofHanded a, b) ≡ told (doRule b (recOf q) (popBackIf t))
   unfolding popBack popBackIf
   back-only-if e =
       rw is
       (only-if b q t popBack (popBackIf t)
-      (record { free = refl; free-too = refl; head = either _ (q .head .0); len = refl; moved = either _ 0; handed = refl; list = refl }) _ refl p e)
+      (record {
+        free = refl;
+        free-too = refl;
+        head = either _ (q .head .0);
+        len = refl;
+        moved = either _ 0;
+        handed = refl;
+        list = refl;
+      }) _ refl p e)

@@ -11,7 +11,8 @@ use Rattle.extends.proofs.check_more.Statement.{statement}
 use Rattle.extends.proofs.check_more.Tie as tie
 
 -- past the first tests nothing is refused
-past : (c : tie.After-enum-told) → onChange (c .before .before .before .args .cap) (recOf (c .before .before .before .args .q)) 0 ≡ 0
+past : (c : tie.After-enum-told)
+    → onChange (c .before .before .before .args .cap) (recOf (c .before .before .before .args .q)) 0 ≡ 0
 past c = passed-zero _ _ (c .before .before .check-change .ensures) (c .enum-told .given .1)
 
 check-change-requires : tie.Need-check-change-requires
@@ -33,7 +34,8 @@ returns-2 : tie.Need-returns-2
 returns-2 c = queue-passes _ _ _ _ (past (c .before .before)) (room-refuses _ _ (omega arith))
 
 returns-3 : tie.Need-returns-3
-returns-3 c = let g = change-ok _ _ 0 (past (c .before .before)) .0 in queue-passes _ _ _ _ (past (c .before .before)) (room-passes _ _ (omega arith))
+returns-3 c = let g = change-ok _ _ 0 (past (c .before .before)) .0 in queue-passes _ _ _ _ (past (c .before .before))
+    (room-passes _ _ (omega arith))
 
 pub check-more-spec : {M : Type 1} → statement M
 check-more-spec =

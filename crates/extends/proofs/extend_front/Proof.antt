@@ -11,7 +11,10 @@ use Rattle.queue.proofs.Checks.{passed-zero}
 use Rattle.queue.specs.Answers.{recOf}
 
 -- past the tests there is room
-past : (c : tie.After-enum-told) → More (now (c .before .before .before .before .before .args .slots)) (recOf (c .before .before .before .before .before .args .q)) (length (now (c .before .before .before .before .before .args .values)))
+past : (c : tie.After-enum-told)
+    → More (now (c .before .before .before .before .before .args .slots))
+    (recOf (c .before .before .before .before .before .args .q))
+    (length (now (c .before .before .before .before .before .args .values)))
 past c = more _ _ _ (passed-zero _ _ (c .before .before .check-more .ensures) (c .enum-told .given .1))
 
 check-more-requires : tie.Need-check-more-requires
@@ -26,7 +29,8 @@ refused-requires c κs = search needs
 returns : tie.Need-returns
 returns c =
     rw (c .refused .ensures)
-    (fronted-refused _ _ _ _ _ (c .before .before .before .before .check-more .ensures) (c .before .before .refusal .given .1))
+    (fronted-refused _ _ _ _ _ (c .before .before .before .before .check-more .ensures)
+    (c .before .before .refusal .given .1))
 
 enum-told : tie.Need-enum-told
 enum-told c = search needs
@@ -38,13 +42,17 @@ stepped-back-requires : tie.Need-stepped-back-requires
 stepped-back-requires c κs = let m = past (c .before) in (omega arith, omega arith, omega arith)
 
 copy-slice-reversed-requires : tie.Need-copy-slice-reversed-requires
-copy-slice-reversed-requires c κs = front-fits _ _ (now (c .before .before .before .before .before .before .before .before .args .values)) (past (c .before .before .before)) (c .before .before .if1 .left) _ (c .before .stepped-back .ensures)
+copy-slice-reversed-requires c κs =
+    front-fits _ _ (now (c .before .before .before .before .before .before .before .before .args .values))
+    (past (c .before .before .before)) (c .before .before .if1 .left) _ (c .before .stepped-back .ensures)
 
 same-length : tie.Need-same-length
 same-length c = search needs
 
 returns-3 : tie.Need-returns-3
-returns-3 c = fronted _ _ _ (past (c .before .before .before .before .before .before)) (c .before .before .before .before .before .if1 .left) _ (c .before .before .before .before .stepped-back .ensures) _ (c .before .before .copy-slice-reversed .ensures)
+returns-3 c = fronted _ _ _ (past (c .before .before .before .before .before .before))
+    (c .before .before .before .before .before .if1 .left) _ (c .before .before .before .before .stepped-back .ensures)
+    _ (c .before .before .copy-slice-reversed .ensures)
 
 pub extend-front-spec : {M : Type 1} → statement M
 extend-front-spec =

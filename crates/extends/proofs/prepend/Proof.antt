@@ -11,7 +11,10 @@ use Rattle.queue.proofs.Checks.{passed-zero}
 use Rattle.queue.specs.Answers.{recOf}
 
 -- past the tests there is room
-past : (c : tie.After-enum-told) → More (now (c .before .before .before .before .before .args .slots)) (recOf (c .before .before .before .before .before .args .q)) (length (now (c .before .before .before .before .before .args .values)))
+past : (c : tie.After-enum-told)
+    → More (now (c .before .before .before .before .before .args .slots))
+    (recOf (c .before .before .before .before .before .args .q))
+    (length (now (c .before .before .before .before .before .args .values)))
 past c = more _ _ _ (passed-zero _ _ (c .before .before .check-more .ensures) (c .enum-told .given .1))
 
 check-more-requires : tie.Need-check-more-requires
@@ -26,7 +29,8 @@ refused-requires c κs = search needs
 returns : tie.Need-returns
 returns c =
     rw (c .refused .ensures)
-    (prepended-refused _ _ _ _ _ (c .before .before .before .before .check-more .ensures) (c .before .before .refusal .given .1))
+    (prepended-refused _ _ _ _ _ (c .before .before .before .before .check-more .ensures)
+    (c .before .before .refusal .given .1))
 
 enum-told : tie.Need-enum-told
 enum-told c = search needs
@@ -40,14 +44,17 @@ stepped-back-requires c κs = let m = past (c .before) in (omega arith, omega ar
 copy-slice-requires : tie.Need-copy-slice-requires
 copy-slice-requires c κs =
     let m = past (c .before .before .before) in
-    let k = front-fits _ _ (now (c .before .before .before .before .before .before .before .before .args .values)) m (c .before .before .if1 .left) _ (c .before .stepped-back .ensures) in
+    let k = front-fits _ _ (now (c .before .before .before .before .before .before .before .before .args .values)) m
+    (c .before .before .if1 .left) _ (c .before .stepped-back .ensures) in
     (k .0, k .1, m .ok .few)
 
 same-length : tie.Need-same-length
 same-length c = search needs
 
 returns-3 : tie.Need-returns-3
-returns-3 c = prepended _ _ _ (past (c .before .before .before .before .before .before)) (c .before .before .before .before .before .if1 .left) _ (c .before .before .before .before .stepped-back .ensures) _ (c .before .before .copy-slice .ensures)
+returns-3 c = prepended _ _ _ (past (c .before .before .before .before .before .before))
+    (c .before .before .before .before .before .if1 .left) _ (c .before .before .before .before .stepped-back .ensures)
+    _ (c .before .before .copy-slice .ensures)
 
 pub prepend-spec : {M : Type 1} → statement M
 prepend-spec =

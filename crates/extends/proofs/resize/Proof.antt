@@ -13,10 +13,13 @@ use Rattle.extends.proofs.Behind.{place-in}
 use Rattle.rules.specs.Refusals.{onChange}
 
 -- past the first tests nothing is refused
-past : (c : tie.After-enum-told) → onChange (length (now (c .before .before .before .before .args .slots))) (recOf (c .before .before .before .before .args .q)) 0 ≡ 0
+past : (c : tie.After-enum-told)
+    → onChange (length (now (c .before .before .before .before .args .slots)))
+    (recOf (c .before .before .before .before .args .q)) 0 ≡ 0
 past c = passed-zero _ _ (c .before .before .check-change .ensures) (c .enum-told .given .1)
 
-ok : (c : tie.After-enum-told) → Fine (now (c .before .before .before .before .args .slots)) (recOf (c .before .before .before .before .args .q))
+ok : (c : tie.After-enum-told)
+    → Fine (now (c .before .before .before .before .args .slots)) (recOf (c .before .before .before .before .args .q))
 ok c = fine-change _ _ (past c)
 
 check-change-requires : tie.Need-check-change-requires
@@ -31,7 +34,8 @@ refused-requires c κs = search needs
 returns : tie.Need-returns
 returns c =
     rw (c .refused .ensures)
-    (told-first _ _ _ (c .before .before .before .before .check-change .ensures) _ _ (c .before .before .refusal .given .1))
+    (told-first _ _ _ (c .before .before .before .before .check-change .ensures) _ _
+    (c .before .before .refusal .given .1))
 
 enum-told : tie.Need-enum-told
 enum-told c = search needs
@@ -48,7 +52,8 @@ stepped-requires : tie.Need-stepped-requires
 stepped-requires c κs = search needs
 
 returns-3 : tie.Need-returns-3
-returns-3 c = cut-down _ _ (past (c .before .before .before .before)) _ _ _ (c .if2 .taken) (c .before .stepped .ensures)
+returns-3 c = cut-down _ _ (past (c .before .before .before .before)) _ _ _ (c .if2 .taken)
+    (c .before .stepped .ensures)
 
 wrap-add-requires : tie.Need-wrap-add-requires
 wrap-add-requires c κs = let g = ok (c .before .before .before .before .before) in omega arith
@@ -57,13 +62,18 @@ sub-fill-slots : tie.Need-sub-fill-slots
 sub-fill-slots c = search needs
 
 fill-slots-requires : tie.Need-fill-slots-requires
-fill-slots-requires c κs = let g = ok (c .before .before .before .before .before .before) .good in (place-in _ _ _ _ (c .wrap-add .ensures) (omega arith) (omega arith), omega arith)
+fill-slots-requires c κs = let g = ok (c .before .before .before .before .before .before) .good
+    in (place-in _ _ _ _ (c .wrap-add .ensures) (omega arith) (omega arith), omega arith)
 
 same-length : tie.Need-same-length
 same-length c = search needs
 
 returns-4 : tie.Need-returns-4
-returns-4 c = filled-up _ _ (past (c .before .before .before .before .before .before .before .before .before)) _ _ _ _ _ (c .before .before .before .before .before .if2 .left) (c .before .before .before .before .before .before .before .before .if1 .left) (c .before .before .before .wrap-add .ensures) (c .before .before .fill-slots .ensures) (c .before .before .before .before .before .before .stepped .ensures)
+returns-4 c = filled-up _ _ (past (c .before .before .before .before .before .before .before .before .before)) _ _ _ _ _
+    (c .before .before .before .before .before .if2 .left)
+    (c .before .before .before .before .before .before .before .before .if1 .left)
+    (c .before .before .before .wrap-add .ensures) (c .before .before .fill-slots .ensures)
+    (c .before .before .before .before .before .before .stepped .ensures)
 
 pub resize-spec : {M : Type 1} → statement M
 resize-spec =

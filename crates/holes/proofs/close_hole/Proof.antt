@@ -15,7 +15,8 @@ shorter-side-requires c κs = search needs
 wrap-copy-requires : tie.Need-wrap-copy-requires
 wrap-copy-requires c κs =
     let st = c .before .before .before .before .before .before .before in
-    side-can-move (now (st .args .slots)) _ _ _ _ _ (omega arith) (st .pre .1) _ _ _ _ (c .before .before .before .before .shorter-side .ensures) (st .pre .2)
+    side-can-move (now (st .args .slots)) _ _ _ _ _ (omega arith) (st .pre .1) _ _ _ _
+    (c .before .before .before .before .shorter-side .ensures) (st .pre .2)
 
 same-length : tie.Need-same-length
 same-length c = search needs
@@ -23,7 +24,10 @@ same-length c = search needs
 returns-2 : tie.Need-returns-2
 returns-2 c =
     let st = c .before .before .before .before .before .before .before .before .before .before in
-    side-moved (now (st .args .slots)) _ _ _ _ _ (omega arith) (st .pre .1) _ _ _ _ (c .before .before .before .before .before .before .before .shorter-side .ensures) (c .before .before .before .before .before .before .before .before .if1 .left) _ (c .before .before .wrap-copy .ensures)
+    side-moved (now (st .args .slots)) _ _ _ _ _ (omega arith) (st .pre .1) _ _ _ _
+    (c .before .before .before .before .before .before .before .shorter-side .ensures)
+    (c .before .before .before .before .before .before .before .before .if1 .left) _
+    (c .before .before .wrap-copy .ensures)
 
 pub close-hole-spec : {M : Type 1} → statement M
 close-hole-spec =

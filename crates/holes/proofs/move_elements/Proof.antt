@@ -15,7 +15,9 @@ wrap-add-requires-2 : tie.Need-wrap-add-requires-2
 wrap-add-requires-2 c κs = search needs
 
 wrap-copy-requires : tie.Need-wrap-copy-requires
-wrap-copy-requires c κs = let a = c .before .before .before .before .args in can-move _ (a .head .0) (a .from) (a .to) _ _ _ (c .before .before .before .before .pre .0) (omega arith) (omega arith) (c .before .before .before .before .pre .3) (c .before .before .wrap-add .ensures) (c .before .wrap-add2 .ensures)
+wrap-copy-requires c κs = let a = c .before .before .before .before .args in can-move _ (a .head .0) (a .from) (a .to) _
+    _ _ (c .before .before .before .before .pre .0) (omega arith) (omega arith)
+    (c .before .before .before .before .pre .3) (c .before .before .wrap-add .ensures) (c .before .wrap-add2 .ensures)
 
 same-length : tie.Need-same-length
 same-length c = search needs

@@ -39,7 +39,12 @@ with-byte-requires-4 : tie.Need-with-byte-requires-4
 with-byte-requires-4 c κs = search needs
 
 returns : tie.Need-returns
-returns c = four-number (now (c .before .before .before .before .before .before .before .before .before .args .bytes)) (c .before .before .before .before .before .before .before .before .before .args .at) _ _ _ _ (c .before .before .before .before .before .before .before .before .before .pre) (c .before .before .before .before .before .before .with-byte .ensures .0) (c .before .before .before .before .with-byte2 .ensures .0) (c .before .before .with-byte3 .ensures .0) (c .with-byte4 .ensures .0)
+returns c = four-number (now (c .before .before .before .before .before .before .before .before .before .args .bytes))
+    (c .before .before .before .before .before .before .before .before .before .args .at) _ _ _ _
+    (c .before .before .before .before .before .before .before .before .before .pre)
+    (c .before .before .before .before .before .before .with-byte .ensures .0)
+    (c .before .before .before .before .with-byte2 .ensures .0) (c .before .before .with-byte3 .ensures .0)
+    (c .with-byte4 .ensures .0)
 
 pub four-at-spec : {M : Type 1} → statement M
 four-at-spec =

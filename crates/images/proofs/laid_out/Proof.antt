@@ -31,13 +31,16 @@ shared-slice-read-seen : tie.Need-shared-slice-read-seen
 shared-slice-read-seen c = search needs
 
 returns-4 : tie.Need-returns-4
-returns-4 c = wrong-version _ (c .before .before .before .before .if2 .left) (sym (c .before .before .before .two-at .ensures) ∙ c .before .before .if3 .left) (c .if4 .taken)
+returns-4 c = wrong-version _ (c .before .before .before .before .if2 .left)
+    (sym (c .before .before .before .two-at .ensures) ∙ c .before .before .if3 .left) (c .if4 .taken)
 
 most-short-requires : tie.Need-most-short-requires
 most-short-requires c κs = search needs
 
 returns-5 : tie.Need-returns-5
-returns-5 c = right _ (c .before .before .before .before .before .if2 .left) (sym (c .before .before .before .before .two-at .ensures) ∙ c .before .before .before .if3 .left) _ (c .before .if4 .left) (c .most-short .ensures)
+returns-5 c = right _ (c .before .before .before .before .before .if2 .left)
+    (sym (c .before .before .before .before .two-at .ensures) ∙ c .before .before .before .if3 .left) _
+    (c .before .if4 .left) (c .most-short .ensures)
 
 pub laid-out-spec : {M : Type 1} → statement M
 laid-out-spec =

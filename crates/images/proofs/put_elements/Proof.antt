@@ -14,16 +14,24 @@ use Rattle.images.proofs.put_elements.Statement.{statement}
 use Rattle.images.proofs.put_elements.Tie as tie
 
 abbrev Inv-loop : tie.InvT-loop
-Inv-loop slots head len target₀ cap i₀ target i = (i ≤ len) × (length target ≡ length target₀) × (target ≡ sets target₀ 3 (allBytes (listOf slots (head .0) i)))
+Inv-loop slots head len target₀ cap i₀ target i =
+    (i ≤ len) × (length target ≡ length target₀) × (target ≡ sets target₀ 3 (allBytes (listOf slots (head .0) i)))
 
 abbrev μ-loop : tie.MeasureT-loop
 μ-loop slots head len target₀ cap i₀ target i = len - i
 
 -- the slot that is read
-slot : (c : tie.After-as-index Inv-loop μ-loop) → c .as-index .result < length (now (c .before .before .before .before .before .before .args .slots))
+slot : (c : tie.After-as-index Inv-loop μ-loop)
+    → c .as-index .result < length (now (c .before .before .before .before .before .before .args .slots))
 slot c =
     let a = c .before .before .before .before .before .before .args in
-    omega (arith, c .as-index .ensures, c .before .wrap-add .ensures, place-low (length (now (a .slots))) (a .head .0) (omega arith) (c .before .before .before .loop .i) (omega arith))
+    omega (
+      arith,
+      c .as-index .ensures,
+      c .before .wrap-add .ensures,
+      place-low (length (now (a .slots))) (a .head .0) (omega arith) (c .before .before .before .loop .i)
+          (omega arith),
+    )
 
 loop-holds : tie.Need-loop-holds Inv-loop μ-loop
 loop-holds c =
@@ -63,7 +71,10 @@ loop-again c =
     let k = c .before .before .before .before .before .before .before .before .loop in (
       omega arith,
       search needs,
-      put-more (now (a .target)) (now (a .slots)) (k .target) _ (a .head .0) (k .i) _ (omega arith) (omega arith) (c .before .before .before .before .before .as-index .ensures ∙ c .before .before .before .before .before .before .wrap-add .ensures) (k .inv .2) (c .before .before .put-four .ensures),
+      put-more (now (a .target)) (now (a .slots)) (k .target) _ (a .head .0) (k .i) _ (omega arith) (omega arith)
+          (c .before .before .before .before .before .as-index .ensures
+          ∙ c .before .before .before .before .before .before .wrap-add .ensures) (k .inv .2)
+          (c .before .before .put-four .ensures),
     )
 
 same-length : tie.Need-same-length Inv-loop μ-loop
@@ -73,7 +84,8 @@ returns : tie.Need-returns Inv-loop μ-loop
 returns c =
     let a = c .before .before .before .before .args in
     let done : c .before .loop .i ≡ a .len = omega arith in
-    c .before .loop .inv .2 ∙ ap (λ (n : ℕ). sets (now (a .target)) 3 (allBytes (listOf (now (a .slots)) (a .head .0) n))) done
+    c .before .loop .inv .2 ∙ ap (λ (n : ℕ). sets (now (a .target)) 3
+    (allBytes (listOf (now (a .slots)) (a .head .0) n))) done
 
 pub put-elements-spec : {M : Type 1} → statement M
 put-elements-spec =

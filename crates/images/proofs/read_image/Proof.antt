@@ -17,7 +17,8 @@ most-slots-requires : tie.Need-most-slots-requires
 most-slots-requires c κs = search needs
 
 returns : tie.Need-returns
-returns c = let a = c .before .before .before .before .args in reads-slots (now (a .slots)) (now (a .bytes)) (omega arith)
+returns c = let a = c .before .before .before .before .args in reads-slots (now (a .slots)) (now (a .bytes))
+    (omega arith)
 
 laid-out-requires : tie.Need-laid-out-requires
 laid-out-requires c κs = search needs
@@ -26,7 +27,8 @@ sub-n : tie.Need-sub-n
 sub-n c = omega (arith, laid-size _ (laid c))
 
 returns-2 : tie.Need-returns-2
-returns-2 c = let a = c .before .before .before .before .before .before .before .args in reads-full (now (a .slots)) (now (a .bytes)) (omega arith) (laid (c .before)) (c .if3 .taken)
+returns-2 c = let a = c .before .before .before .before .before .before .before .args in reads-full (now (a .slots))
+    (now (a .bytes)) (omega arith) (laid (c .before)) (c .if3 .taken)
 
 take-elements-requires : tie.Need-take-elements-requires
 take-elements-requires c κs = omega (arith, laid-size _ (laid (c .before .before)))
@@ -38,10 +40,15 @@ same-length : tie.Need-same-length
 same-length c = search needs
 
 returns-3 : tie.Need-returns-3
-returns-3 c = let a = c .before .before .before .before .before .before .before .before .before .before .before .before .args in reads (now (a .slots)) (now (a .bytes)) (omega arith) (laid (c .before .before .before .before .before .before)) _ _ (c .before .before .before .before .before .if3 .left) (c .before .before .before .take-elements .ensures) (c .new-record .ensures)
+returns-3 c = let a = c .before .before .before .before .before .before .before .before .before .before .before .before
+    .args in reads (now (a .slots)) (now (a .bytes)) (omega arith)
+    (laid (c .before .before .before .before .before .before)) _ _
+    (c .before .before .before .before .before .if3 .left) (c .before .before .before .take-elements .ensures)
+    (c .new-record .ensures)
 
 returns-4 : tie.Need-returns-4
-returns-4 c = let a = c .before .before .before .before .before .before .args in reads-broken (now (a .slots)) (now (a .bytes)) (omega arith) (sym (c .before .laid-out .ensures) ∙ c .if2 .left)
+returns-4 c = let a = c .before .before .before .before .before .before .args in reads-broken (now (a .slots))
+    (now (a .bytes)) (omega arith) (sym (c .before .laid-out .ensures) ∙ c .if2 .left)
 
 pub read-image-spec : {M : Type 1} → statement M
 read-image-spec =

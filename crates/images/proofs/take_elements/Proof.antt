@@ -12,7 +12,8 @@ use Rattle.images.proofs.take_elements.Statement.{statement}
 use Rattle.images.proofs.take_elements.Tie as tie
 
 abbrev Inv-loop : tie.InvT-loop
-Inv-loop slots₀ bytes n i₀ slots i = (i ≤ n) × (length slots ≡ length slots₀) × (slots ≡ sets slots₀ 0 (fours i (drop 3 bytes)))
+Inv-loop slots₀ bytes n i₀ slots i =
+    (i ≤ n) × (length slots ≡ length slots₀) × (slots ≡ sets slots₀ 0 (fours i (drop 3 bytes)))
 
 abbrev μ-loop : tie.MeasureT-loop
 μ-loop slots₀ bytes n i₀ slots i = n - i
@@ -42,7 +43,11 @@ loop-less : tie.Need-loop-less Inv-loop μ-loop
 loop-less c = search needs
 
 loop-again : tie.Need-loop-again Inv-loop μ-loop
-loop-again c = (omega arith, simp length-set (c .before .before .loop .inv .1), take-more _ _ _ _ _ (c .before .before .loop .inv .2) (c .four-at .ensures))
+loop-again c = (
+  omega arith,
+  simp length-set (c .before .before .loop .inv .1),
+  take-more _ _ _ _ _ (c .before .before .loop .inv .2) (c .four-at .ensures),
+)
 
 same-length : tie.Need-same-length Inv-loop μ-loop
 same-length c = search needs
@@ -51,7 +56,8 @@ returns : tie.Need-returns Inv-loop μ-loop
 returns c =
     let a = c .before .before .before .before .args in
     let done : c .before .loop .i ≡ a .n = omega arith in
-    take-all (now (a .slots)) (now (a .bytes)) _ (a .n) (omega arith) (c .before .loop .inv .2 ∙ ap (λ (n : ℕ). sets (now (a .slots)) 0 (fours n (drop 3 (now (a .bytes))))) done)
+    take-all (now (a .slots)) (now (a .bytes)) _ (a .n) (omega arith)
+    (c .before .loop .inv .2 ∙ ap (λ (n : ℕ). sets (now (a .slots)) 0 (fours n (drop 3 (now (a .bytes))))) done)
 
 pub take-elements-spec : {M : Type 1} → statement M
 take-elements-spec =

@@ -24,7 +24,9 @@ cast-result : tie.Need-cast-result
 cast-result c = search needs
 
 returns : tie.Need-returns
-returns c = two-number (now (c .before .before .before .before .before .args .bytes)) (c .before .before .before .before .before .args .at) _ _ (c .before .before .before .before .before .pre) (c .before .before .with-byte .ensures .0) (c .with-byte2 .ensures .0)
+returns c = two-number (now (c .before .before .before .before .before .args .bytes))
+    (c .before .before .before .before .before .args .at) _ _ (c .before .before .before .before .before .pre)
+    (c .before .before .with-byte .ensures .0) (c .with-byte2 .ensures .0)
 
 pub two-at-spec : {M : Type 1} → statement M
 two-at-spec =

@@ -12,10 +12,14 @@ use Rattle.images.proofs.write_image.Statement.{statement}
 use Rattle.images.proofs.write_image.Tie as tie
 
 -- past the first tests nothing is refused
-past : (c : tie.After-enum-told) → onQueue (length (now (c .before .before .before .before .before .args .slots))) (recOf (c .before .before .before .before .before .args .q)) 0 ≡ 0
+past : (c : tie.After-enum-told)
+    → onQueue (length (now (c .before .before .before .before .before .args .slots)))
+    (recOf (c .before .before .before .before .before .args .q)) 0 ≡ 0
 past c = passed-zero _ _ (c .before .before .check .ensures) (c .enum-told .given .1)
 
-ok : (c : tie.After-enum-told) → Fine (now (c .before .before .before .before .before .args .slots)) (recOf (c .before .before .before .before .before .args .q))
+ok : (c : tie.After-enum-told)
+    → Fine (now (c .before .before .before .before .before .args .slots))
+    (recOf (c .before .before .before .before .before .args .q))
 ok c = fine _ _ (past c)
 
 check-requires : tie.Need-check-requires
@@ -25,7 +29,8 @@ enum-known-refusal : tie.Need-enum-known-refusal
 enum-known-refusal c = search needs
 
 returns : tie.Need-returns
-returns c = writes-first _ _ _ _ (failed-number _ _ _ (c .before .before .before .check .ensures) (c .before .refusal .given .1))
+returns c = writes-first _ _ _ _
+    (failed-number _ _ _ (c .before .before .before .check .ensures) (c .before .refusal .given .1))
 
 enum-told : tie.Need-enum-told
 enum-told c = search needs
@@ -55,7 +60,9 @@ same-length : tie.Need-same-length
 same-length c = search needs
 
 returns-3 : tie.Need-returns-3
-returns-3 c = writes _ _ _ (past (c .before .before .before .before .before .before .before .before .before)) _ _ (c .before .before .before .before .before .before .before .before .if1 .left) (c .before .before .before .before .before .before .put-head .ensures) (c .before .before .put-elements .ensures)
+returns-3 c = writes _ _ _ (past (c .before .before .before .before .before .before .before .before .before)) _ _
+    (c .before .before .before .before .before .before .before .before .if1 .left)
+    (c .before .before .before .before .before .before .put-head .ensures) (c .before .before .put-elements .ensures)
 
 pub write-image-spec : {M : Type 1} → statement M
 write-image-spec =

@@ -6,7 +6,8 @@ use Rattle.replay_many.proofs.run_all.Statement.{statement}
 use Rattle.replay_many.proofs.run_all.Tie as tie
 
 abbrev Inv-loop : tie.InvT-loop
-Inv-loop slots₀ input₀ out₀ turns₀ slots input out turns = (length slots ≡ length slots₀) × (length input ≡ length input₀) × (length out ≡ length out₀)
+Inv-loop slots₀ input₀ out₀ turns₀ slots input out turns =
+    (length slots ≡ length slots₀) × (length input ≡ length input₀) × (length out ≡ length out₀)
 
 abbrev μ-loop : tie.MeasureT-loop
 μ-loop slots₀ input₀ out₀ turns₀ slots input out turns = turns

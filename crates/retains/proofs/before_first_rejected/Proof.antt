@@ -33,7 +33,8 @@ leading-in-requires : tie.Need-leading-in-requires
 leading-in-requires c κs = search needs
 
 returns : tie.Need-returns
-returns c = leading-straight _ _ _ _ _ (c .before .before .before .as-index .ensures) _ (omega arith) (c .leading-in .ensures)
+returns c = leading-straight _ _ _ _ _ (c .before .before .before .as-index .ensures) _ (omega arith)
+    (c .leading-in .ensures)
 
 mul-leading-in-2 : tie.Need-mul-leading-in-2
 mul-leading-in-2 c = search needs
@@ -51,7 +52,9 @@ leading-in-requires-2 : tie.Need-leading-in-requires-2
 leading-in-requires-2 c κs = search needs
 
 returns-2 : tie.Need-returns-2
-returns-2 c = let a = c .before .before .before .before .before .before .args in leading-front _ (now (a .slots)) (a .head .0) (a .len) _ (c .before .before .before .before .as-index .ensures) (c .before .before .before .if1 .left) (omega arith) _ (c .before .leading-in2 .ensures) (c .if2 .taken)
+returns-2 c = let a = c .before .before .before .before .before .before .args in leading-front _ (now (a .slots))
+    (a .head .0) (a .len) _ (c .before .before .before .before .as-index .ensures)
+    (c .before .before .before .if1 .left) (omega arith) _ (c .before .leading-in2 .ensures) (c .if2 .taken)
 
 sub-rest : tie.Need-sub-rest
 sub-rest c = search needs
@@ -72,10 +75,15 @@ leading-in-requires-3 c κs = search needs
 returns-3 : tie.Need-returns-3
 returns-3 c =
     let a = c .before .before .before .before .before .before .before .before .args in
-    leading-both _ (now (a .slots)) (a .head .0) (a .len) _ (c .before .before .before .before .before .before .as-index .ensures) (c .before .before .before .before .before .if1 .left) (omega arith) _ (c .before .before .before .leading-in2 .ensures) _ (omega arith) (c .before .before .if2 .left) (c .leading-in3 .ensures)
+    leading-both _ (now (a .slots)) (a .head .0) (a .len) _
+    (c .before .before .before .before .before .before .as-index .ensures)
+    (c .before .before .before .before .before .if1 .left) (omega arith) _
+    (c .before .before .before .leading-in2 .ensures) _ (omega arith) (c .before .before .if2 .left)
+    (c .leading-in3 .ensures)
 
 add-result : tie.Need-add-result
-add-result c = let a = c .before .before .before .before .before .before .before .before .args in omega (arith, returns-3 c, leading-upto (meets (testOf (a .test))) (now (a .slots)) (a .head .0) (a .len))
+add-result c = let a = c .before .before .before .before .before .before .before .before .args in omega
+    (arith, returns-3 c, leading-upto (meets (testOf (a .test))) (now (a .slots)) (a .head .0) (a .len))
 
 pub before-first-rejected-spec : {M : Type 1} → statement M
 before-first-rejected-spec =

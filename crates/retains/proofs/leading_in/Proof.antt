@@ -1,4 +1,5 @@
--- `retains::leading_in` meets its contract. The loop's invariant: so many passed, and the count of the rest is still to be added. Assumes nothing.
+-- `retains::leading_in` meets its contract. The loop's invariant: so many
+-- passed, and the count of the rest is still to be added. Assumes nothing.
 use Prim.Native.Nat.{_-_}
 use borrow.Author.Needs.{needs}
 use lib.ListN.{length}
@@ -33,10 +34,12 @@ loop-less : tie.Need-loop-less Inv-loop μ-loop
 loop-less c = search needs
 
 loop-again : tie.Need-loop-again Inv-loop μ-loop
-loop-again c = passing-on _ _ _ (c .before .before .before .before .loop .inv) (c .before .before .before .loop-test .taken) _ (c .before .meets .ensures) (c .if1 .taken)
+loop-again c = passing-on _ _ _ (c .before .before .before .before .loop .inv)
+    (c .before .before .before .loop-test .taken) _ (c .before .meets .ensures) (c .if1 .taken)
 
 returns : tie.Need-returns Inv-loop μ-loop
-returns c = passing-out _ _ _ (c .before .before .before .before .loop .inv) (c .before .before .before .loop-test .taken) _ (c .before .meets .ensures) (c .if1 .left)
+returns c = passing-out _ _ _ (c .before .before .before .before .loop .inv)
+    (c .before .before .before .loop-test .taken) _ (c .before .meets .ensures) (c .if1 .left)
 
 returns-2 : tie.Need-returns-2 Inv-loop μ-loop
 returns-2 c = passing-all _ _ _ (c .before .loop .inv) (c .loop-test .left)

@@ -31,10 +31,20 @@ part-copy-slice-start : tie.Need-part-copy-slice-start
 part-copy-slice-start c = search needs
 
 part-copy-slice-end : tie.Need-part-copy-slice-end
-part-copy-slice-end c = let k = part-few _ (now (c .before .before .before .before .before .before .before .before .before .before .args .slots)) (c .before .before .before .before .before .before .before .before .before .before .args .from) (c .before .before .before .before .before .before .before .before .before .before .args .n) (c .before .before .before .before .before .before .before .before .before .before .pre .0) _ (c .before .before .before .before .sift .ensures .0) in omega arith
+part-copy-slice-end c = let k = part-few _
+    (now (c .before .before .before .before .before .before .before .before .before .before .args .slots))
+    (c .before .before .before .before .before .before .before .before .before .before .args .from)
+    (c .before .before .before .before .before .before .before .before .before .before .args .n)
+    (c .before .before .before .before .before .before .before .before .before .before .pre .0) _
+    (c .before .before .before .before .sift .ensures .0) in omega arith
 
 copy-slice-requires : tie.Need-copy-slice-requires
-copy-slice-requires c κs = let k = part-few _ (now (c .before .before .before .before .before .before .before .before .before .before .before .args .slots)) (c .before .before .before .before .before .before .before .before .before .before .before .args .from) (c .before .before .before .before .before .before .before .before .before .before .before .args .n) (c .before .before .before .before .before .before .before .before .before .before .before .pre .0) _ (c .before .before .before .before .before .sift .ensures .0) in omega arith
+copy-slice-requires c κs = let k = part-few _
+    (now (c .before .before .before .before .before .before .before .before .before .before .before .args .slots))
+    (c .before .before .before .before .before .before .before .before .before .before .before .args .from)
+    (c .before .before .before .before .before .before .before .before .before .before .before .args .n)
+    (c .before .before .before .before .before .before .before .before .before .before .before .pre .0) _
+    (c .before .before .before .before .before .sift .ensures .0) in omega arith
 
 same-length : tie.Need-same-length
 same-length c = search needs
@@ -44,10 +54,15 @@ same-length-2 c = search needs
 
 returns : tie.Need-returns
 returns c =
-    let a = c .before .before .before .before .before .before .before .before .before .before .before .before .before .before .args in
+    let a = c .before .before .before .before .before .before .before .before .before .before .before .before .before
+    .before .args in
     let s = c .before .before .before .before .before .before .before .before .sift .ensures in
-    let fits = c .before .before .before .before .before .before .before .before .before .before .before .before .before .before .pre .0 in
-    (part-count _ (now (a .slots)) (a .from) (a .n) fits _ (s .0), part-slots _ (now (a .slots)) (a .from) (a .n) fits _ (s .0) _ _ _ (s .1) (c .before .before .copy-slice .ensures))
+    let fits = c .before .before .before .before .before .before .before .before .before .before .before .before .before
+    .before .pre .0 in (
+      part-count _ (now (a .slots)) (a .from) (a .n) fits _ (s .0),
+      part-slots _ (now (a .slots)) (a .from) (a .n) fits _ (s .0) _ _ _ (s .1)
+          (c .before .before .copy-slice .ensures),
+    )
 
 pub move-part-spec : {M : Type 1} → statement M
 move-part-spec =

@@ -1,4 +1,5 @@
--- `retains::sift` meets its contract. The loop's invariant: those kept so far stand in the front of `held`. Assumes nothing.
+-- `retains::sift` meets its contract. The loop's invariant: those
+-- kept so far stand in the front of `held`. Assumes nothing.
 use mathlib.Core.Logic.{⊎-elim}
 use Prim.Native.Nat.{_-_}
 use borrow.Author.Needs.{needs}
@@ -47,13 +48,17 @@ loop-again c =
     let s = c .before .before .before .before .loop .inv in
     let fits = c .before .before .before .before .before .before .before .pre in
     let lt = c .before .before .before .loop-test .taken in
-    ⊎-elim (λ w. sifted-kept _ _ _ _ _ _ s fits lt _ (c .before .meets .ensures) _ (w .0 .taken) (w .1)) (λ w. sifted-out _ _ _ _ _ _ s fits lt _ (c .before .meets .ensures) _ (w .0 .left) (w .1)) (c .if1 .came)
+    ⊎-elim (λ w. sifted-kept _ _ _ _ _ _ s fits lt _ (c .before .meets .ensures) _ (w .0 .taken) (w .1))
+    (λ w. sifted-out _ _ _ _ _ _ s fits lt _ (c .before .meets .ensures) _ (w .0 .left) (w .1)) (c .if1 .came)
 
 same-length : tie.Need-same-length Inv-loop μ-loop
 same-length c = search needs
 
 returns : tie.Need-returns Inv-loop μ-loop
-returns c = (sifted-count _ _ _ _ _ _ (c .before .loop .inv) (c .loop-test .left), sifted-stored _ _ _ _ _ _ (c .before .loop .inv) (c .loop-test .left))
+returns c = (
+  sifted-count _ _ _ _ _ _ (c .before .loop .inv) (c .loop-test .left),
+  sifted-stored _ _ _ _ _ _ (c .before .loop .inv) (c .loop-test .left),
+)
 
 pub sift-spec : {M : Type 1} → statement M
 sift-spec =

@@ -12,7 +12,8 @@ use Rattle.runs.proofs.back_run.Statement.{statement}
 use Rattle.runs.proofs.back_run.Tie as tie
 
 -- the run lies in the slots
-within : (c : tie.After-back-span) → Within (length (now (c .before .before .args .slots))) (spanOf (c .back-span .result))
+within : (c : tie.After-back-span)
+    → Within (length (now (c .before .before .args .slots))) (spanOf (c .back-span .result))
 within c = rw (c .back-span .ensures) (runs-within _ _ _ _ .back)
 
 back-span-requires : tie.Need-back-span-requires
@@ -32,7 +33,10 @@ part-result-end c = within c .inside
 
 returns : tie.Need-returns
 unfolding part backRun
-returns c = (ap (part (now (c .before .before .before .args .slots))) (c .before .back-span .ensures), ap (partStart (c .before .before .before .args .slots)) (c .before .back-span .ensures))
+returns c = (
+  ap (part (now (c .before .before .before .args .slots))) (c .before .back-span .ensures),
+  ap (partStart (c .before .before .before .args .slots)) (c .before .back-span .ensures),
+)
 
 pub back-run-spec : {M : Type 1} → statement M
 back-run-spec =

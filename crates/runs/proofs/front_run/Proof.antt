@@ -12,7 +12,8 @@ use Rattle.runs.proofs.front_run.Statement.{statement}
 use Rattle.runs.proofs.front_run.Tie as tie
 
 -- the run lies in the slots
-within : (c : tie.After-front-span) → Within (length (now (c .before .before .args .slots))) (spanOf (c .front-span .result))
+within : (c : tie.After-front-span)
+    → Within (length (now (c .before .before .args .slots))) (spanOf (c .front-span .result))
 within c = rw (c .front-span .ensures) (runs-within _ _ _ _ .front)
 
 front-span-requires : tie.Need-front-span-requires
@@ -32,7 +33,10 @@ part-result-end c = within c .inside
 
 returns : tie.Need-returns
 unfolding part frontRun
-returns c = (ap (part (now (c .before .before .before .args .slots))) (c .before .front-span .ensures), ap (partStart (c .before .before .before .args .slots)) (c .before .front-span .ensures))
+returns c = (
+  ap (part (now (c .before .before .before .args .slots))) (c .before .front-span .ensures),
+  ap (partStart (c .before .before .before .args .slots)) (c .before .front-span .ensures),
+)
 
 pub front-run-spec : {M : Type 1} → statement M
 front-run-spec =

@@ -17,10 +17,13 @@ enum-told : tie.Need-enum-told
 enum-told c = search needs
 
 returns : tie.Need-returns
-returns c = ap (λ (t : TwoRuns). t .front) (runs-seen _ _ _ _ _ (sym (ap ofRanges (c .before .front .given .1)) ∙ c .before .before .before .slice-ranges .ensures))
+returns c = ap (λ (t : TwoRuns). t .front)
+    (runs-seen _ _ _ _ _ (sym (ap ofRanges (c .before .front .given .1))
+    ∙ c .before .before .before .slice-ranges .ensures))
 
 returns-2 : tie.Need-returns-2
-returns-2 c = ap (λ (t : TwoRuns). t .front) (runs-refused _ _ _ _ _ (sym (ap ofRanges (c .enum-told .given .1)) ∙ c .before .before .slice-ranges .ensures))
+returns-2 c = ap (λ (t : TwoRuns). t .front)
+    (runs-refused _ _ _ _ _ (sym (ap ofRanges (c .enum-told .given .1)) ∙ c .before .before .slice-ranges .ensures))
 
 pub front-span-spec : {M : Type 1} → statement M
 front-span-spec =

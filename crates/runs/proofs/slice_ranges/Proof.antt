@@ -17,21 +17,33 @@ use Rattle.runs.proofs.slice_ranges.Statement.{statement}
 use Rattle.runs.proofs.slice_ranges.Tie as tie
 
 -- past the first tests nothing is refused
-past : (c : tie.After-enum-told) → onQueue (length (now (c .before .before .before .before .args .slots))) (recOf (c .before .before .before .before .args .q)) 0 ≡ 0
+past : (c : tie.After-enum-told)
+    → onQueue (length (now (c .before .before .before .before .args .slots)))
+    (recOf (c .before .before .before .before .args .q)) 0 ≡ 0
 past c = passed-zero _ _ (c .before .before .check .ensures) (c .enum-told .given .1)
 
-ok : (c : tie.After-enum-told) → Fine (now (c .before .before .before .before .args .slots)) (recOf (c .before .before .before .before .args .q))
+ok : (c : tie.After-enum-told)
+    → Fine (now (c .before .before .before .before .args .slots)) (recOf (c .before .before .before .before .args .q))
 ok c = fine _ _ (past c)
 
 -- the place of start
-at-w : (c : tie.After-as-index) → c .as-index .result ≡ place (length (now (c .before .before .before .before .before .before .before .before .before .before .args .slots))) (c .before .before .before .before .before .before .before .before .before .before .args .q .head .0) (c .before .before .before .before .before .before .before .before .before .before .args .start)
+at-w : (c : tie.After-as-index)
+    → c .as-index .result ≡ place (length
+    (now (c .before .before .before .before .before .before .before .before .before .before .args .slots)))
+    (c .before .before .before .before .before .before .before .before .before .before .args .q .head .0)
+    (c .before .before .before .before .before .before .before .before .before .before .args .start)
 at-w c = c .as-index .ensures ∙ c .before .wrap-add .ensures
 
 -- past the range test it is a range
-ranged : (c : tie.After-enum-told2) → inRange (c .before .before .before .before .before .before .before .args .q .len) (c .before .before .before .before .before .before .before .args .start) (c .before .before .before .before .before .before .before .args .end) 0 ≡ 0
+ranged : (c : tie.After-enum-told2)
+    → inRange (c .before .before .before .before .before .before .before .args .q .len)
+    (c .before .before .before .before .before .before .before .args .start)
+    (c .before .before .before .before .before .before .before .args .end) 0 ≡ 0
 ranged c = passed-zero _ _ (c .before .before .check-range .ensures) (c .enum-told2 .given .1)
 
-slot : (c : tie.After-as-index) → c .as-index .result < length (now (c .before .before .before .before .before .before .before .before .before .before .args .slots))
+slot : (c : tie.After-as-index)
+    → c .as-index .result < length
+    (now (c .before .before .before .before .before .before .before .before .before .before .args .slots))
 slot c =
     let a = c .before .before .before .before .before .before .before .before .before .before .args in
     let k = range-ok _ _ _ _ (ranged (c .before .before .before)) in
@@ -58,13 +70,15 @@ enum-known-refusal-2 c = search needs
 
 returns-2 : tie.Need-returns-2
 returns-2 c =
-    range-refused _ _ _ _ (past (c .before .before .before .before)) _ (failed-number _ _ _ (c .before .before .before .check-range .ensures) (c .before .refusal2 .given .1))
+    range-refused _ _ _ _ (past (c .before .before .before .before)) _
+    (failed-number _ _ _ (c .before .before .before .check-range .ensures) (c .before .refusal2 .given .1))
 
 enum-told-2 : tie.Need-enum-told-2
 enum-told-2 c = search needs
 
 returns-3 : tie.Need-returns-3
-returns-3 c = range-seen _ _ _ _ (past (c .before .before .before .before)) (ranged (c .before)) _ (runs-none _ _ _ _ (c .if1 .taken))
+returns-3 c = range-seen _ _ _ _ (past (c .before .before .before .before)) (ranged (c .before)) _
+    (runs-none _ _ _ _ (c .if1 .taken))
 
 wrap-add-requires : tie.Need-wrap-add-requires
 wrap-add-requires c κs =
@@ -91,16 +105,20 @@ add-stop c =
 
 returns-4 : tie.Need-returns-4
 returns-4 c =
-    range-seen _ _ _ _ (past (c .before .before .before .before .before .before .before)) (ranged (c .before .before .before .before)) _
-    (rw (at-w (c .before)) (runs-one _ _ _ _ (c .before .before .before .if1 .left) (rw (at-w (c .before)) at (c .if2 .taken))))
+    range-seen _ _ _ _ (past (c .before .before .before .before .before .before .before))
+    (ranged (c .before .before .before .before)) _
+    (rw (at-w (c .before)) (runs-one _ _ _ _ (c .before .before .before .if1 .left)
+    (rw (at-w (c .before)) at (c .if2 .taken))))
 
 sub-rest : tie.Need-sub-rest
 sub-rest c = search needs
 
 returns-5 : tie.Need-returns-5
 returns-5 c =
-    range-seen _ _ _ _ (past (c .before .before .before .before .before .before .before)) (ranged (c .before .before .before .before)) _
-    (rw (at-w (c .before)) (runs-two _ _ _ _ (c .before .before .before .if1 .left) (rw (at-w (c .before)) at (c .if2 .left))))
+    range-seen _ _ _ _ (past (c .before .before .before .before .before .before .before))
+    (ranged (c .before .before .before .before)) _
+    (rw (at-w (c .before)) (runs-two _ _ _ _ (c .before .before .before .if1 .left)
+    (rw (at-w (c .before)) at (c .if2 .left))))
 
 pub slice-ranges-spec : {M : Type 1} → statement M
 slice-ranges-spec =

@@ -20,13 +20,20 @@ wrap-add-requires c κs = search needs
 copy-slice-requires : tie.Need-copy-slice-requires
 copy-slice-requires c κs =
     let a = c .before .before .before .before .before .args in
-    omega (arith, c .before .wrap-add .ensures, place-low (length (now (a .slots))) (a .head .0) (omega arith) (a .start) (omega arith))
+    omega (
+      arith,
+      c .before .wrap-add .ensures,
+      place-low (length (now (a .slots))) (a .head .0) (omega arith) (a .start) (omega arith),
+    )
 
 same-length : tie.Need-same-length
 same-length c = search needs
 
 returns-2 : tie.Need-returns-2
-returns-2 c = c .before .before .copy-slice .ensures ∙ ap (λ (p : ℕ). lay (now (c .before .before .before .before .before .before .before .before .args .slots)) p (now (c .before .before .before .before .before .before .before .before .args .values))) (c .before .before .before .before .wrap-add .ensures)
+returns-2 c = c .before .before .copy-slice .ensures
+    ∙ ap (λ (p : ℕ). lay (now (c .before .before .before .before .before .before .before .before .args .slots)) p
+    (now (c .before .before .before .before .before .before .before .before .args .values)))
+    (c .before .before .before .before .wrap-add .ensures)
 
 pub fill-spec : {M : Type 1} → statement M
 fill-spec =

@@ -18,7 +18,8 @@ same-length : tie.Need-same-length
 same-length c = search needs
 
 returns : tie.Need-returns
-returns c = by-tail _ _ _ _ _ _ _ (omega arith) (omega arith) (omega arith) (omega arith) (c .before .before .move-elements .ensures)
+returns c = by-tail _ _ _ _ _ _ _ (omega arith) (omega arith) (omega arith) (omega arith)
+    (c .before .before .move-elements .ensures)
 
 close-hole-requires : tie.Need-close-hole-requires
 close-hole-requires c κs = search needs

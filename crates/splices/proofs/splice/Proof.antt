@@ -15,14 +15,21 @@ use Rattle.splices.proofs.splice.Statement.{statement}
 use Rattle.splices.proofs.splice.Tie as tie
 
 -- past the first tests nothing is refused
-past : (c : tie.After-enum-told) → onChange (length (now (c .before .before .before .before .before .args .slots))) (recOf (c .before .before .before .before .before .args .q)) 0 ≡ 0
+past : (c : tie.After-enum-told)
+    → onChange (length (now (c .before .before .before .before .before .args .slots)))
+    (recOf (c .before .before .before .before .before .args .q)) 0 ≡ 0
 past c = passed-zero _ _ (c .before .before .check-change .ensures) (c .enum-told .given .1)
 
-ok : (c : tie.After-enum-told) → Fine (now (c .before .before .before .before .before .args .slots)) (recOf (c .before .before .before .before .before .args .q))
+ok : (c : tie.After-enum-told)
+    → Fine (now (c .before .before .before .before .before .args .slots))
+    (recOf (c .before .before .before .before .before .args .q))
 ok c = fine-change _ _ (past c)
 
 -- past the range test it is a range
-ranged : (c : tie.After-enum-told2) → inRange (c .before .before .before .before .before .before .before .before .args .q .len) (c .before .before .before .before .before .before .before .before .args .start) (c .before .before .before .before .before .before .before .before .args .end) 0 ≡ 0
+ranged : (c : tie.After-enum-told2)
+    → inRange (c .before .before .before .before .before .before .before .before .args .q .len)
+    (c .before .before .before .before .before .before .before .before .args .start)
+    (c .before .before .before .before .before .before .before .before .args .end) 0 ≡ 0
 ranged c = passed-zero _ _ (c .before .before .check-range .ensures) (c .enum-told2 .given .1)
 
 check-change-requires : tie.Need-check-change-requires
@@ -37,7 +44,8 @@ refused-requires c κs = search needs
 returns : tie.Need-returns
 returns c =
     rw (c .refused .ensures)
-    (told-first _ _ _ (c .before .before .before .before .check-change .ensures) _ _ (c .before .before .refusal .given .1))
+    (told-first _ _ _ (c .before .before .before .before .check-change .ensures) _ _
+    (c .before .before .refusal .given .1))
 
 enum-told : tie.Need-enum-told
 enum-told c = search needs
@@ -55,7 +63,8 @@ returns-2 : tie.Need-returns-2
 returns-2 c =
     rw (c .refused2 .ensures)
     (splice-range _ _ _ _ _ (past (c .before .before .before .before .before)) _
-    (failed-number _ _ _ (c .before .before .before .before .check-range .ensures) (c .before .before .refusal2 .given .1)))
+    (failed-number _ _ _ (c .before .before .before .before .check-range .ensures)
+    (c .before .before .refusal2 .given .1)))
 
 enum-told-2 : tie.Need-enum-told-2
 enum-told-2 c = search needs
@@ -76,7 +85,8 @@ returns-3 : tie.Need-returns-3
 returns-3 c =
     let k = range-ok _ _ _ _ (ranged (c .before .before)) in
     let g = ok (c .before .before .before .before .before) .good in
-    rw (c .refused3 .ensures) (splice-full _ _ _ _ _ (past (c .before .before .before .before .before)) (ranged (c .before .before)) (omega arith))
+    rw (c .refused3 .ensures) (splice-full _ _ _ _ _ (past (c .before .before .before .before .before))
+    (ranged (c .before .before)) (omega arith))
 
 sub-make-room : tie.Need-sub-make-room
 sub-make-room c = let k = range-ok _ _ _ _ (ranged (c .before .before .before)) in omega arith
@@ -90,20 +100,25 @@ make-room-requires c κs =
 
 fill-requires : tie.Need-fill-requires
 fill-requires c κs =
-    let a = c .before .before .before .before .before .before .before .before .before .before .before .before .before .before .before .before .args in
+    let a = c .before .before .before .before .before .before .before .before .before .before .before .before .before
+    .before .before .before .args in
     let k = range-ok _ _ _ _ (ranged (c .before .before .before .before .before .before .before .before)) in
     let f = ok (c .before .before .before .before .before .before .before .before .before .before .before) in
     let g = f .good in
     let e = c .before .before .before .before .make-room .ensures in
     let l = e .room .long in
-    let p = spliced-good (length (now (a .slots))) (a .q .head .0) (a .start) (a .end - a .start) (length (now (a .values))) (a .q .len - a .end) (g .placed) (omega arith) in
+    let p = spliced-good (length (now (a .slots))) (a .q .head .0) (a .start) (a .end - a .start)
+    (length (now (a .values))) (a .q .len - a .end) (g .placed) (omega arith) in
     omega (arith, e .head)
 
 add-left : tie.Need-add-left
 add-left c = search needs
 
 add-left-2 : tie.Need-add-left-2
-add-left-2 c = let k = range-ok _ _ _ _ (ranged (c .before .before .before .before .before .before .before .before .before .before .before)) in let g = ok (c .before .before .before .before .before .before .before .before .before .before .before .before .before .before) .good in omega arith
+add-left-2 c = let k = range-ok _ _ _ _
+    (ranged (c .before .before .before .before .before .before .before .before .before .before .before)) in let g = ok
+    (c .before .before .before .before .before .before .before .before .before .before .before .before .before .before)
+    .good in omega arith
 
 head-over-requires : tie.Need-head-over-requires
 head-over-requires c κs = search needs
@@ -116,9 +131,16 @@ same-length c = search needs
 
 returns-4 : tie.Need-returns-4
 returns-4 c =
-    let k = range-ok _ _ _ _ (ranged (c .before .before .before .before .before .before .before .before .before .before .before .before .before)) in
-    let g = ok (c .before .before .before .before .before .before .before .before .before .before .before .before .before .before .before .before) .good in
-    spliced _ _ _ _ _ (past (c .before .before .before .before .before .before .before .before .before .before .before .before .before .before .before .before)) (ranged (c .before .before .before .before .before .before .before .before .before .before .before .before .before)) _ _ _ _ _ _ (omega arith) (c .before .before .before .before .before .before .before .before .before .make-room .ensures) (c .before .before .before .before .fill .ensures) (c .before .head-over .ensures) (c .stepped .ensures)
+    let k = range-ok _ _ _ _ (ranged
+    (c .before .before .before .before .before .before .before .before .before .before .before .before .before)) in
+    let g = ok (c .before .before .before .before .before .before .before .before .before .before .before .before
+    .before .before .before .before) .good in
+    spliced _ _ _ _ _ (past (c .before .before .before .before .before .before .before .before .before .before .before
+    .before .before .before .before .before))
+    (ranged (c .before .before .before .before .before .before .before .before .before .before .before .before
+    .before)) _ _ _ _ _ _ (omega arith)
+    (c .before .before .before .before .before .before .before .before .before .make-room .ensures)
+    (c .before .before .before .before .fill .ensures) (c .before .head-over .ensures) (c .stepped .ensures)
 
 pub splice-spec : {M : Type 1} → statement M
 splice-spec =

@@ -14,27 +14,45 @@ use Rattle.swaps.proofs.swap.Statement.{statement}
 use Rattle.swaps.proofs.swap.Tie as tie
 
 -- past the first tests nothing is refused
-past : (c : tie.After-enum-told) → onChange (length (now (c .before .before .before .before .args .slots))) (recOf (c .before .before .before .before .args .q)) 0 ≡ 0
+past : (c : tie.After-enum-told)
+    → onChange (length (now (c .before .before .before .before .args .slots)))
+    (recOf (c .before .before .before .before .args .q)) 0 ≡ 0
 past c = passed-zero _ _ (c .before .before .check-change .ensures) (c .enum-told .given .1)
 
-ok : (c : tie.After-enum-told) → Fine (now (c .before .before .before .before .args .slots)) (recOf (c .before .before .before .before .args .q))
+ok : (c : tie.After-enum-told)
+    → Fine (now (c .before .before .before .before .args .slots)) (recOf (c .before .before .before .before .args .q))
 ok c = fine-change _ _ (past c)
 
 -- the slots of elements i and j
-one : (c : tie.After-wrap-add) → c .wrap-add .result .0 < length (now (c .before .before .before .before .before .before .before .before .before .before .args .slots))
+one : (c : tie.After-wrap-add)
+    → c .wrap-add .result .0 < length
+    (now (c .before .before .before .before .before .before .before .before .before .before .args .slots))
 one c =
     let a = c .before .before .before .before .before .before .before .before .before .before .args in
     let g = ok (c .before .before .before .before .before .before) .good in
-    omega (arith, c .wrap-add .ensures, place-low (length (now (a .slots))) (a .q .head .0) (omega arith) (a .i) (omega arith))
+    omega (
+      arith,
+      c .wrap-add .ensures,
+      place-low (length (now (a .slots))) (a .q .head .0) (omega arith) (a .i) (omega arith),
+    )
 
-other : (c : tie.After-wrap-add2) → c .wrap-add2 .result .0 < length (now (c .before .before .before .before .before .before .before .before .before .before .before .args .slots))
+other : (c : tie.After-wrap-add2)
+    → c .wrap-add2 .result .0 < length
+    (now (c .before .before .before .before .before .before .before .before .before .before .before .args .slots))
 other c =
     let a = c .before .before .before .before .before .before .before .before .before .before .before .args in
     let g = ok (c .before .before .before .before .before .before .before) .good in
-    omega (arith, c .wrap-add2 .ensures, place-low (length (now (a .slots))) (a .q .head .0) (omega arith) (a .j) (omega arith))
+    omega (
+      arith,
+      c .wrap-add2 .ensures,
+      place-low (length (now (a .slots))) (a .q .head .0) (omega arith) (a .j) (omega arith),
+    )
 
 -- as many as before the first store
-kept : (c : tie.After-as-index) → length (c .before .before .before .fill .last .0) ≡ length (now (c .before .before .before .before .before .before .before .before .before .before .before .before .before .before .before .before .args .slots))
+kept : (c : tie.After-as-index)
+    → length (c .before .before .before .fill .last .0)
+    ≡ length (now (c .before .before .before .before .before .before .before .before .before .before .before .before
+    .before .before .before .before .args .slots))
 kept c = rw length-set at (ap length (c .before .before .before .fill .ensures .1))
 
 slot : (c : tie.After-as-index) → c .as-index .result < length (c .before .before .before .fill .last .0)
@@ -52,7 +70,8 @@ refused-requires c κs = search needs
 returns : tie.Need-returns
 returns c =
     rw (c .refused .ensures)
-    (told-first _ _ _ (c .before .before .before .before .check-change .ensures) _ _ (c .before .before .refusal .given .1))
+    (told-first _ _ _ (c .before .before .before .before .check-change .ensures) _ _
+    (c .before .before .refusal .given .1))
 
 enum-told : tie.Need-enum-told
 enum-told c = search needs
@@ -71,10 +90,12 @@ refused-requires-3 c κs = search needs
 returns-3 : tie.Need-returns-3
 returns-3 c =
     rw (c .refused3 .ensures)
-    (other-past _ _ (past (c .before .before .before .before .before)) _ _ (c .before .before .before .if1 .left) (c .before .if2 .taken))
+    (other-past _ _ (past (c .before .before .before .before .before)) _ _ (c .before .before .before .if1 .left)
+    (c .before .if2 .taken))
 
 returns-4 : tie.Need-returns-4
-returns-4 c = not-swapped _ _ (past (c .before .before .before .before .before)) _ _ (c .before .before .before .if1 .left) (c .before .if2 .left) (c .if3 .taken)
+returns-4 c = not-swapped _ _ (past (c .before .before .before .before .before)) _ _
+    (c .before .before .before .if1 .left) (c .before .if2 .left) (c .if3 .taken)
 
 wrap-add-requires : tie.Need-wrap-add-requires
 wrap-add-requires c κs = let g = ok (c .before .before .before .before .before) .good in omega arith
@@ -98,7 +119,14 @@ same-length : tie.Need-same-length
 same-length c = search needs
 
 returns-5 : tie.Need-returns-5
-returns-5 c = swapped _ _ (past (c .before .before .before .before .before .before .before .before .before .before .before .before)) _ _ (c .before .before .before .before .before .before .before .before .before .before .if1 .left) _ _ _ _ _ (c .before .before .before .before .before .before .before .before .if2 .left) (c .before .before .before .before .before .before .before .if3 .left) (c .before .before .before .before .before .before .wrap-add .ensures) (c .before .before .before .before .before .wrap-add2 .ensures) (c .as-index .ensures) (c .before .before .before .fill .ensures .0) (c .before .before .before .fill .ensures .1)
+returns-5 c = swapped _ _ (past
+    (c .before .before .before .before .before .before .before .before .before .before .before .before)) _ _
+    (c .before .before .before .before .before .before .before .before .before .before .if1 .left) _ _ _ _ _
+    (c .before .before .before .before .before .before .before .before .if2 .left)
+    (c .before .before .before .before .before .before .before .if3 .left)
+    (c .before .before .before .before .before .before .wrap-add .ensures)
+    (c .before .before .before .before .before .wrap-add2 .ensures) (c .as-index .ensures)
+    (c .before .before .before .fill .ensures .0) (c .before .before .before .fill .ensures .1)
 
 pub swap-spec : {M : Type 1} → statement M
 swap-spec =

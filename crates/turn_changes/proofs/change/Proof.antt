@@ -66,7 +66,8 @@ same-length c = search needs
 returns : tie.Need-returns
 unfolding doOnQueue
 returns c =
-    change-known _ _ _ _ (c .of-change .ensures) _ _ _ _ _ (c .before .before .before .before .before .before .call .given .1)
+    change-known _ _ _ _ (c .of-change .ensures) _ _ _ _ _
+    (c .before .before .before .before .before .before .call .given .1)
     (c .before .before .before .make-edit .ensures)
 
 same-length-2 : tie.Need-same-length-2
@@ -75,7 +76,8 @@ same-length-2 c = search needs
 returns-2 : tie.Need-returns-2
 unfolding doOnQueue
 returns-2 c =
-    change-known _ _ _ _ (c .of-change2 .ensures) _ _ _ _ _ (c .before .before .before .before .before .before .call2 .given .1)
+    change-known _ _ _ _ (c .of-change2 .ensures) _ _ _ _ _
+    (c .before .before .before .before .before .before .call2 .given .1)
     (c .before .before .before .make-join .ensures)
 
 same-length-3 : tie.Need-same-length-3
@@ -84,7 +86,8 @@ same-length-3 c = search needs
 returns-3 : tie.Need-returns-3
 unfolding doOnQueue
 returns-3 c =
-    change-known _ _ _ _ (c .of-handed .ensures) _ _ _ _ _ (c .before .before .before .before .before .before .call3 .given .1)
+    change-known _ _ _ _ (c .of-handed .ensures) _ _ _ _ _
+    (c .before .before .before .before .before .before .call3 .given .1)
     (c .before .before .before .make-removal .ensures)
 
 same-length-4 : tie.Need-same-length-4

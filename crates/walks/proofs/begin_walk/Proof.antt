@@ -12,7 +12,8 @@ enum-known-refusal : tie.Need-enum-known-refusal
 enum-known-refusal c = search needs
 
 returns : tie.Need-returns
-returns c = not-begun _ _ _ (failed-number _ _ _ (c .before .before .before .check .ensures) (c .before .refusal .given .1))
+returns c = not-begun _ _ _ (failed-number _ _ _ (c .before .before .before .check .ensures)
+    (c .before .refusal .given .1))
 
 enum-told : tie.Need-enum-told
 enum-told c = search needs
@@ -21,7 +22,8 @@ whole-walk-requires : tie.Need-whole-walk-requires
 whole-walk-requires c κs = search needs
 
 returns-2 : tie.Need-returns-2
-returns-2 c = begun _ _ _ (passed-zero _ _ (c .before .before .before .check .ensures) (c .before .enum-told .given .1)) (c .whole-walk .ensures)
+returns-2 c = begun _ _ _ (passed-zero _ _ (c .before .before .before .check .ensures) (c .before .enum-told .given .1))
+    (c .whole-walk .ensures)
 
 pub begin-walk-spec : {M : Type 1} → statement M
 begin-walk-spec =

@@ -12,10 +12,14 @@ use Rattle.walks.proofs.walk_next.Statement.{statement}
 use Rattle.walks.proofs.walk_next.Tie as tie
 
 -- past the tests nothing is refused
-past : (c : tie.After-enum-told) → onWalk (length (now (c .before .before .before .before .args .slots))) (walkOf (c .before .before .before .before .args .w)) ≡ 0
+past : (c : tie.After-enum-told)
+    → onWalk (length (now (c .before .before .before .before .args .slots)))
+    (walkOf (c .before .before .before .before .args .w)) ≡ 0
 past c = passed-zero _ _ (c .before .before .check-walk .ensures) (c .enum-told .given .1)
 
-ok : (c : tie.After-enum-told) → Walkable (now (c .before .before .before .before .args .slots)) (walkOf (c .before .before .before .before .args .w))
+ok : (c : tie.After-enum-told)
+    → Walkable (now (c .before .before .before .before .args .slots))
+    (walkOf (c .before .before .before .before .args .w))
 ok c = walkable _ _ (past c)
 
 check-walk-requires : tie.Need-check-walk-requires
@@ -25,7 +29,8 @@ enum-known-refusal : tie.Need-enum-known-refusal
 enum-known-refusal c = search needs
 
 returns : tie.Need-returns
-returns c = step-refused front _ _ _ (failed-number _ _ _ (c .before .before .before .check-walk .ensures) (c .before .refusal .given .1))
+returns c = step-refused front _ _ _
+    (failed-number _ _ _ (c .before .before .before .check-walk .ensures) (c .before .refusal .given .1))
 
 enum-told : tie.Need-enum-told
 enum-told c = search needs

@@ -21,7 +21,8 @@ returns c = λ h. joined-known h _ _ (c .before .joined .given .1)
 
 returns-2 : tie.Need-returns-2
 unfolding madeOr
-returns-2 c = λ h. both-number _ _ _ _ _ (c .number-of .ensures) ∙ joined-known h _ _ (c .before .before .joined2 .given .1)
+returns-2 c = λ h. both-number _ _ _ _ _ (c .number-of .ensures)
+    ∙ joined-known h _ _ (c .before .before .joined2 .given .1)
 
 pub of-joined-spec : {M : Type 1} → statement M
 of-joined-spec =

@@ -16,11 +16,13 @@ enum-told c = search needs
 
 returns : tie.Need-returns
 unfolding recOr
-returns c = ap (λ (s : Kept). recOr (recOf (c .before .before .before .args .before)) (stateOf s)) (sym (c .before .state .given .1))
+returns c = ap (λ (s : Kept). recOr (recOf (c .before .before .before .args .before)) (stateOf s))
+    (sym (c .before .state .given .1))
 
 returns-2 : tie.Need-returns-2
 unfolding recOr
-returns-2 c = ap (λ (s : Kept). recOr (recOf (c .before .before .args .before)) (stateOf s)) (sym (c .enum-told .given .1))
+returns-2 c = ap (λ (s : Kept). recOr (recOf (c .before .before .args .before)) (stateOf s))
+    (sym (c .enum-told .given .1))
 
 pub record-or-spec : {M : Type 1} → statement M
 record-or-spec = tie.close (tie.spec enum-known-state enum-told returns returns-2)

@@ -15,7 +15,9 @@ use Rattle.comparisons.proofs.in_runs.stands_in.Statement.{statement}
 use Rattle.comparisons.proofs.in_runs.stands_in.Tie as tie
 
 abbrev Inv-loop : tie.InvT-loop
-Inv-loop front back x run s i₀ i = (i ≤ length s) × (length s * 4 < 2 ^ 63) × ((k : ℕ) → k < i → getD s k 0 ≡ x → ⊥) × (((run ≡ 0) × (s ≡ front)) ⊎ ((run ≡ 1) × (s ≡ back)))
+Inv-loop front back x run s i₀ i =
+    (i ≤ length s) × (length s * 4 < 2 ^ 63) × ((k : ℕ) → k < i → getD s k 0 ≡ x → ⊥)
+    × (((run ≡ 0) × (s ≡ front)) ⊎ ((run ≡ 1) × (s ≡ back)))
 
 abbrev μ-loop : tie.MeasureT-loop
 μ-loop front back x run s i₀ i = length s - i

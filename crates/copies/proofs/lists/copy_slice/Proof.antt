@@ -36,7 +36,9 @@ same-length c = search needs
 returns : tie.Need-returns
 returns c =
     let a = c .before .before .before .before .before .before .before .before .args in
-    part-back (now (a .slots)) (now (a .src)) _ _ (a .dst .0) (c .before .before .before .before .before .as-index .ensures) (omega arith) (c .before .before .copy-in .ensures)
+    part-back (now (a .slots)) (now (a .src)) _ _ (a .dst .0)
+    (c .before .before .before .before .before .as-index .ensures) (omega arith)
+    (c .before .before .copy-in .ensures)
 
 same-length-2 : tie.Need-same-length-2
 same-length-2 c = search needs

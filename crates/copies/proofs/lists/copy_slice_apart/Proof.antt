@@ -30,7 +30,8 @@ part-copy-in-end : tie.Need-part-copy-in-end
 part-copy-in-end c = search needs
 
 slice-aggregate-copy-in : tie.Need-slice-aggregate-copy-in
-slice-aggregate-copy-in c = sym (length-take-le _ (now (c .before .before .before .before .before .args .src)) (omega arith))
+slice-aggregate-copy-in c = sym
+    (length-take-le _ (now (c .before .before .before .before .before .args .src)) (omega arith))
 
 copy-in-requires : tie.Need-copy-in-requires
 copy-in-requires c κs = simp (length-take, length-drop) (omega arith)
@@ -55,7 +56,8 @@ same-length c = search needs
 
 returns : tie.Need-returns
 returns c =
-    let st = c .before .before .before .before .before .before .before .before .before .before .before .before .before in
+    let st = c .before .before .before .before .before .before .before .before .before .before .before .before .before
+    in
     let b = now (st .args .slots) in
     let l = now (st .args .src) in
     let d = st .args .dst .0 in
@@ -63,7 +65,9 @@ returns c =
     let r = length b - w .result in
     let many = length-take-le r l (omega arith) in
     two-parts b _ _ (take r l) _ d (st .pre .0 .0) (omega arith)
-    (part-back b (take r l) _ (w .result) d (w .ensures) (omega arith) (c .before .before .before .before .before .before .before .copy-in .ensures)) (c .before .before .copy-in2 .ensures)
+    (part-back b (take r l) _ (w .result) d (w .ensures) (omega arith)
+    (c .before .before .before .before .before .before .before .copy-in .ensures))
+    (c .before .before .copy-in2 .ensures)
     ∙ ap (lay b d) (cut l r)
 
 pub copy-slice-apart-spec : {M : Type 1} → statement M

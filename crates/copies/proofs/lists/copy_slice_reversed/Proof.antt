@@ -64,7 +64,9 @@ copy-in-reversed-requires-2 : tie.Need-copy-in-reversed-requires-2
 copy-in-reversed-requires-2 c κs = search needs
 
 slice-aggregate-copy-in-reversed : tie.Need-slice-aggregate-copy-in-reversed
-slice-aggregate-copy-in-reversed c = sym (length-take-le _ (now (c .before .before .before .before .before .before .before .before .before .before .before .args .src)) (omega arith))
+slice-aggregate-copy-in-reversed c =
+    sym (length-take-le _ (now (c .before .before .before .before .before .before .before .before .before .before
+    .before .args .src)) (omega arith))
 
 copy-in-reversed-requires-3 : tie.Need-copy-in-reversed-requires-3
 copy-in-reversed-requires-3 c κs = simp length-take (omega arith)
@@ -76,23 +78,29 @@ returns : tie.Need-returns
 returns c =
     let a = c .before .before .before .before .before .before .before .before .args in
     let many = length-reverse (now (a .src)) in
-    part-back (now (a .slots)) (reverse (now (a .src))) _ _ (a .dst .0) (c .before .before .before .before .before .as-index .ensures) (omega arith) (c .before .before .copy-in-reversed .ensures)
+    part-back (now (a .slots)) (reverse (now (a .src))) _ _ (a .dst .0)
+    (c .before .before .before .before .before .as-index .ensures) (omega arith)
+    (c .before .before .copy-in-reversed .ensures)
 
 same-length-2 : tie.Need-same-length-2
 same-length-2 c = search needs
 
 returns-2 : tie.Need-returns-2
 returns-2 c =
-    let st = c .before .before .before .before .before .before .before .before .before .before .before .before .before .before in
+    let st = c .before .before .before .before .before .before .before .before .before .before .before .before .before
+    .before in
     let b = now (st .args .slots) in
     let l = now (st .args .src) in
     let d = st .args .dst .0 in
     let w = c .before .before .before .before .before .before .before .before .before .before .before .as-index in
     let left = length l - (length b - w .result) in
     let right = take (length l - left) (drop left l) in
-    let many : length (reverse right) ≡ length b - w .result = length-reverse right ∙ simp (length-take, length-drop) (omega arith) in
+    let many : length (reverse right) ≡ length b - w .result =
+    length-reverse right ∙ simp (length-take, length-drop) (omega arith) in
     two-parts b _ _ (reverse right) (reverse (take left l)) d (st .pre .0) (omega arith)
-    (part-back b (reverse right) _ (w .result) d (w .ensures) (omega arith) (c .before .before .before .before .before .before .before .copy-in-reversed2 .ensures)) (c .before .before .copy-in-reversed3 .ensures)
+    (part-back b (reverse right) _ (w .result) d (w .ensures) (omega arith)
+    (c .before .before .before .before .before .before .before .copy-in-reversed2 .ensures))
+    (c .before .before .copy-in-reversed3 .ensures)
     ∙ ap (lay b d) (sym (reverse-append (take left l) right) ∙ ap reverse (cut l left))
 
 pub copy-slice-reversed-spec : {M : Type 1} → statement M

@@ -59,7 +59,8 @@ returns : tie.Need-returns
 returns c =
     let a = c .before .before .before .before .before .before .before .args in
     let many = length-replicate (a .len) (a .v) in
-    part-back (now (a .slots)) (replicate (a .len) (a .v)) _ _ (a .dst .0) (c .before .before .before .before .before .as-index .ensures) (omega arith) (c .before .before .fill .ensures)
+    part-back (now (a .slots)) (replicate (a .len) (a .v)) _ _ (a .dst .0)
+    (c .before .before .before .before .before .as-index .ensures) (omega arith) (c .before .before .fill .ensures)
 
 same-length-2 : tie.Need-same-length-2
 same-length-2 c = search needs
@@ -75,7 +76,8 @@ returns-2 c =
     let many = length-replicate r v in
     let whole : r + (st .args .len - r) ≡ st .args .len = omega arith in
     two-parts b _ _ (replicate r v) _ d (st .pre .0) (omega arith)
-    (part-back b (replicate r v) _ (w .result) d (w .ensures) (omega arith) (c .before .before .before .before .before .before .fill2 .ensures)) (c .before .before .fill3 .ensures)
+    (part-back b (replicate r v) _ (w .result) d (w .ensures) (omega arith)
+    (c .before .before .before .before .before .before .fill2 .ensures)) (c .before .before .fill3 .ensures)
     ∙ ap (lay b d) (replicate-append-replicate r (st .args .len - r) v ∙ ap (λ (k : ℕ). replicate k v) whole)
 
 pub fill-slots-spec : {M : Type 1} → statement M

@@ -1,4 +1,5 @@
--- `copies::wraps::copy_dst_before_src` meets its contract: what is copied later was not overwritten before. Assumes nothing.
+-- `copies::wraps::copy_dst_before_src` meets its contract: what
+-- is copied later was not overwritten before. Assumes nothing.
 use native.Mathlib.Omega.{arith}
 use borrow.Author.Needs.{needs}
 use denote.Ref.{now}
@@ -20,19 +21,33 @@ sub-dst-pre-wrap-len : tie.Need-sub-dst-pre-wrap-len
 sub-dst-pre-wrap-len c = omega arith
 
 copy-requires : tie.Need-copy-requires
-copy-requires c κs = let k = dst-wraps _ _ _ _ _ _ (c .before .before .before .before .before .pre .1 .1) (c .before .before .before .as-index .ensures) (c .before .before .as-index2 .ensures) (c .before .if1 .taken) in omega arith
+copy-requires c κs = let k = dst-wraps _ _ _ _ _ _ (c .before .before .before .before .before .pre .1 .1)
+    (c .before .before .before .as-index .ensures) (c .before .before .as-index2 .ensures) (c .before .if1 .taken)
+    in omega arith
 
 add-requires : tie.Need-add-requires
-add-requires c κs = let k = dst-wraps _ _ _ _ _ _ (c .before .before .before .before .before .before .before .before .before .pre .1 .1) (c .before .before .before .before .before .before .before .as-index .ensures) (c .before .before .before .before .before .before .as-index2 .ensures) (c .before .before .before .before .before .if1 .taken) in omega arith
+add-requires c κs = let k = dst-wraps _ _ _ _ _ _
+    (c .before .before .before .before .before .before .before .before .before .pre .1 .1)
+    (c .before .before .before .before .before .before .before .as-index .ensures)
+    (c .before .before .before .before .before .before .as-index2 .ensures)
+    (c .before .before .before .before .before .if1 .taken) in omega arith
 
 zero-requires : tie.Need-zero-requires
 zero-requires c κs = search needs
 
 sub-copy : tie.Need-sub-copy
-sub-copy c = let k = dst-wraps _ _ _ _ _ _ (c .before .before .before .before .before .before .before .before .before .before .before .pre .1 .1) (c .before .before .before .before .before .before .before .before .before .as-index .ensures) (c .before .before .before .before .before .before .before .before .as-index2 .ensures) (c .before .before .before .before .before .before .before .if1 .taken) in omega arith
+sub-copy c = let k = dst-wraps _ _ _ _ _ _
+    (c .before .before .before .before .before .before .before .before .before .before .before .pre .1 .1)
+    (c .before .before .before .before .before .before .before .before .before .as-index .ensures)
+    (c .before .before .before .before .before .before .before .before .as-index2 .ensures)
+    (c .before .before .before .before .before .before .before .if1 .taken) in omega arith
 
 copy-requires-2 : tie.Need-copy-requires-2
-copy-requires-2 c κs = let k = dst-wraps _ _ _ _ _ _ (c .before .before .before .before .before .before .before .before .before .before .before .pre .1 .1) (c .before .before .before .before .before .before .before .before .before .as-index .ensures) (c .before .before .before .before .before .before .before .before .as-index2 .ensures) (c .before .before .before .before .before .before .before .if1 .taken) in omega arith
+copy-requires-2 c κs = let k = dst-wraps _ _ _ _ _ _
+    (c .before .before .before .before .before .before .before .before .before .before .before .pre .1 .1)
+    (c .before .before .before .before .before .before .before .before .before .as-index .ensures)
+    (c .before .before .before .before .before .before .before .before .as-index2 .ensures)
+    (c .before .before .before .before .before .before .before .if1 .taken) in omega arith
 
 copy-requires-3 : tie.Need-copy-requires-3
 copy-requires-3 c κs = omega arith
@@ -50,10 +65,17 @@ copy-requires-4 : tie.Need-copy-requires-4
 copy-requires-4 c κs = omega arith
 
 sub-delta : tie.Need-sub-delta
-sub-delta c = let k = behind _ _ _ _ _ _ (c .before .before .before .before .before .pre .0 .0) (c .before .before .before .before .before .pre .0 .1) (c .before .before .before .before .before .pre .1 .0) (c .before .before .before .as-index .ensures) (c .before .before .as-index2 .ensures) (c .before .if1 .left) in omega arith
+sub-delta c = let k = behind _ _ _ _ _ _ (c .before .before .before .before .before .pre .0 .0)
+    (c .before .before .before .before .before .pre .0 .1) (c .before .before .before .before .before .pre .1 .0)
+    (c .before .before .before .as-index .ensures) (c .before .before .as-index2 .ensures) (c .before .if1 .left)
+    in omega arith
 
 copy-requires-5 : tie.Need-copy-requires-5
-copy-requires-5 c κs = let k = behind _ _ _ _ _ _ (c .before .before .before .before .before .before .pre .0 .0) (c .before .before .before .before .before .before .pre .0 .1) (c .before .before .before .before .before .before .pre .1 .0) (c .before .before .before .before .as-index .ensures) (c .before .before .before .as-index2 .ensures) (c .before .before .if1 .left) in omega arith
+copy-requires-5 c κs = let k = behind _ _ _ _ _ _ (c .before .before .before .before .before .before .pre .0 .0)
+    (c .before .before .before .before .before .before .pre .0 .1)
+    (c .before .before .before .before .before .before .pre .1 .0)
+    (c .before .before .before .before .as-index .ensures) (c .before .before .before .as-index2 .ensures)
+    (c .before .before .if1 .left) in omega arith
 
 zero-requires-3 : tie.Need-zero-requires-3
 zero-requires-3 c κs = search needs
@@ -62,7 +84,13 @@ add-requires-3 : tie.Need-add-requires-3
 add-requires-3 c κs = omega arith
 
 copy-requires-6 : tie.Need-copy-requires-6
-copy-requires-6 c κs = let k = behind _ _ _ _ _ _ (c .before .before .before .before .before .before .before .before .before .before .before .before .pre .0 .0) (c .before .before .before .before .before .before .before .before .before .before .before .before .pre .0 .1) (c .before .before .before .before .before .before .before .before .before .before .before .before .pre .1 .0) (c .before .before .before .before .before .before .before .before .before .before .as-index .ensures) (c .before .before .before .before .before .before .before .before .before .as-index2 .ensures) (c .before .before .before .before .before .before .before .before .if1 .left) in omega arith
+copy-requires-6 c κs = let k = behind _ _ _ _ _ _
+    (c .before .before .before .before .before .before .before .before .before .before .before .before .pre .0 .0)
+    (c .before .before .before .before .before .before .before .before .before .before .before .before .pre .0 .1)
+    (c .before .before .before .before .before .before .before .before .before .before .before .before .pre .1 .0)
+    (c .before .before .before .before .before .before .before .before .before .before .as-index .ensures)
+    (c .before .before .before .before .before .before .before .before .before .as-index2 .ensures)
+    (c .before .before .before .before .before .before .before .before .if1 .left) in omega arith
 
 from-arbitrary-number-requires : tie.Need-from-arbitrary-number-requires
 from-arbitrary-number-requires c κs = search needs
@@ -81,30 +109,52 @@ same-length c = search needs
 
 returns : tie.Need-returns
 returns c =
-    let st = c .before .before .before .before .before .before .before .before .before .before .before .before .before .before in
-    let k = dst-wraps _ _ _ _ _ _ (st .pre .1 .1) (c .before .before .before .before .before .before .before .before .before .before .before .before .as-index .ensures) (c .before .before .before .before .before .before .before .before .before .before .before .as-index2 .ensures) (c .before .before .before .before .before .before .before .before .before .before .if1 .taken) in
+    let st = c .before .before .before .before .before .before .before .before .before .before .before .before .before
+    .before in
+    let k = dst-wraps _ _ _ _ _ _ (st .pre .1 .1)
+    (c .before .before .before .before .before .before .before .before .before .before .before .before .as-index
+    .ensures) (c .before .before .before .before .before .before .before .before .before .before .before .as-index2
+    .ensures) (c .before .before .before .before .before .before .before .before .before .before .if1 .taken) in
     let w = way _ _ _ (st .pre .0 .0) (st .pre .0 .1) in
-    up (now (st .args .slots)) _ _ _ (st .pre .0 .0) (w .0) (w .1) _ _ _ _ _ _ (st .args .len) (c .before .before .before .before .before .before .before .before .copy .ensures) (c .before .before .copy2 .ensures) (on (omega arith)) (over (omega arith)) (omega arith) (st .pre .1 .0)
+    up (now (st .args .slots)) _ _ _ (st .pre .0 .0) (w .0) (w .1) _ _ _ _ _ _ (st .args .len)
+    (c .before .before .before .before .before .before .before .before .copy .ensures)
+    (c .before .before .copy2 .ensures) (on (omega arith)) (over (omega arith)) (omega arith) (st .pre .1 .0)
 
 same-length-2 : tie.Need-same-length-2
 same-length-2 c = search needs
 
 returns-2 : tie.Need-returns-2
 returns-2 c =
-    let st = c .before .before .before .before .before .before .before .before .before .before .before .before .before .before .before in
+    let st = c .before .before .before .before .before .before .before .before .before .before .before .before .before
+    .before .before in
     let w = way _ _ _ (st .pre .0 .0) (st .pre .0 .1) in
-    up (now (st .args .slots)) _ _ _ (st .pre .0 .0) (w .0) (w .1) _ _ _ _ _ _ (st .args .len) (c .before .before .before .before .before .before .before .before .copy3 .ensures) (c .before .before .copy4 .ensures) (over (omega arith)) (on (omega arith)) (omega arith) (st .pre .1 .0)
+    up (now (st .args .slots)) _ _ _ (st .pre .0 .0) (w .0) (w .1) _ _ _ _ _ _ (st .args .len)
+    (c .before .before .before .before .before .before .before .before .copy3 .ensures)
+    (c .before .before .copy4 .ensures) (over (omega arith)) (on (omega arith)) (omega arith) (st .pre .1 .0)
 
 same-length-3 : tie.Need-same-length-3
 same-length-3 c = search needs
 
 returns-3 : tie.Need-returns-3
 returns-3 c =
-    let st = c .before .before .before .before .before .before .before .before .before .before .before .before .before .before .before .before .before .before .before .before .before in
-    up-both (now (st .args .slots)) _ _ _ _ _ _ _ _ _ _ _ _ (st .pre .0 .0) (st .pre .0 .1) (st .pre .1 .0) (c .before .before .before .before .before .before .before .before .before .before .before .before .before .before .before .before .before .before .before .as-index .ensures) (c .before .before .before .before .before .before .before .before .before .before .before .before .before .before .before .before .before .before .as-index2 .ensures) (c .before .before .before .before .before .before .before .before .before .before .before .before .before .before .before .before .before .if1 .left) (c .before .before .before .before .before .before .before .before .before .before .before .before .before .before .before .before .if2 .left)
-    (c .before .before .before .before .before .before .before .before .before .before .before .before .before .before .copy5 .ensures)
-    (c .before .before .before .before .before .before .before .before .before .before .zero3 .ensures) (c .before .before .before .before .before .before .before .before .before .add3 .ensures) (c .before .before .before .before .before .before .before .before .copy6 .ensures)
-    (c .before .before .before .before .from-arbitrary-number .ensures) (c .before .before .before .zero4 .ensures) (c .before .before .copy7 .ensures)
+    let st = c .before .before .before .before .before .before .before .before .before .before .before .before .before
+    .before .before .before .before .before .before .before .before in
+    up-both (now (st .args .slots)) _ _ _ _ _ _ _ _ _ _ _ _ (st .pre .0 .0) (st .pre .0 .1) (st .pre .1 .0)
+    (c .before .before .before .before .before .before .before .before .before .before .before .before .before
+    .before .before .before .before .before .before .as-index .ensures)
+    (c .before .before .before .before .before .before .before .before .before .before .before .before .before
+    .before .before .before .before .before .as-index2 .ensures)
+    (c .before .before .before .before .before .before .before .before .before .before .before .before .before
+    .before .before .before .before .if1 .left)
+    (c .before .before .before .before .before .before .before .before .before .before .before .before .before
+    .before .before .before .if2 .left)
+    (c .before .before .before .before .before .before .before .before .before .before .before .before .before .before
+    .copy5 .ensures)
+    (c .before .before .before .before .before .before .before .before .before .before .zero3 .ensures)
+    (c .before .before .before .before .before .before .before .before .before .add3 .ensures)
+    (c .before .before .before .before .before .before .before .before .copy6 .ensures)
+    (c .before .before .before .before .from-arbitrary-number .ensures) (c .before .before .before .zero4 .ensures)
+    (c .before .before .copy7 .ensures)
 
 pub copy-dst-before-src-spec : {M : Type 1} → statement M
 copy-dst-before-src-spec =

@@ -21,10 +21,13 @@ copy-requires : tie.Need-copy-requires
 copy-requires c κs = omega arith
 
 wrap-copy-apart-requires : tie.Need-wrap-copy-apart-requires
-wrap-copy-apart-requires c κs = let st = c .before .before .before .before .before .before in (st .pre .0, (st .pre .1, dst-past _ _ _ _ (omega arith)))
+wrap-copy-apart-requires c κs =
+    let st = c .before .before .before .before .before .before
+    in (st .pre .0, (st .pre .1, dst-past _ _ _ _ (omega arith)))
 
 wrap-copy-apart-requires-2 : tie.Need-wrap-copy-apart-requires-2
-wrap-copy-apart-requires-2 c κs = let st = c .before .before .before .before in (st .pre .0, (st .pre .1, src-past _ _ _ _ (omega arith)))
+wrap-copy-apart-requires-2 c κs =
+    let st = c .before .before .before .before in (st .pre .0, (st .pre .1, src-past _ _ _ _ (omega arith)))
 
 same-length : tie.Need-same-length
 same-length c = search needs

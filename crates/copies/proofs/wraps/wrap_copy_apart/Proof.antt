@@ -22,7 +22,8 @@ returns : tie.Need-returns
 returns c =
     let a = c .before .before .before .before .args in
     let same : a .src .0 ≡ a .dst .0 = omega arith in
-    sym (lay-own (now (a .slots)) (a .src .0) (a .len)) ∙ ap (λ (d : ℕ). copied (now (a .slots)) (a .src .0) d (a .len)) same
+    sym (lay-own (now (a .slots)) (a .src .0) (a .len))
+    ∙ ap (λ (d : ℕ). copied (now (a .slots)) (a .src .0) d (a .len)) same
 
 as-index-requires-3 : tie.Need-as-index-requires-3
 as-index-requires-3 c κs = search needs
@@ -34,17 +35,31 @@ as-index-requires-4 : tie.Need-as-index-requires-4
 as-index-requires-4 c κs = search needs
 
 -- how far after src the code has found dst
-far : (c : tie.After-as-index4) → c .as-index4 .result ≡ stepBack (length (now (c .before .before .before .before .before .before .before .args .slots))) (c .before .before .before .before .before .before .before .args .dst .0) (c .before .before .before .before .before .before .before .args .src .0)
-far c = c .as-index4 .ensures ∙ c .before .wrap-sub .ensures ∙ ap (stepBack _ (c .before .before .before .before .before .before .before .args .dst .0)) (c .before .before .as-index3 .ensures)
+far : (c : tie.After-as-index4)
+    → c .as-index4 .result ≡ stepBack
+    (length (now (c .before .before .before .before .before .before .before .args .slots)))
+    (c .before .before .before .before .before .before .before .args .dst .0)
+    (c .before .before .before .before .before .before .before .args .src .0)
+far c = c .as-index4 .ensures ∙ c .before .wrap-sub .ensures
+    ∙ ap (stepBack _ (c .before .before .before .before .before .before .before .args .dst .0))
+    (c .before .before .as-index3 .ensures)
 
 copy-src-before-dst-requires : tie.Need-copy-src-before-dst-requires
 copy-src-before-dst-requires c κs =
     let st = c .before .before .before .before .before .before .before .before .before in
-    let e = far (c .before .before) in
-    (st .pre .0, (one-overlap _ _ _ (st .args .len) (st .pre .0 .0) (st .pre .0 .1) (st .pre .1 .0) (λ same. omega arith) (omega arith), st .pre .1 .1))
+    let e = far (c .before .before) in (
+      st .pre .0,
+      (
+        one-overlap _ _ _ (st .args .len) (st .pre .0 .0) (st .pre .0 .1) (st .pre .1 .0)
+            (λ same. omega arith) (omega arith),
+        st .pre .1 .1,
+      ),
+    )
 
 copy-dst-before-src-requires : tie.Need-copy-dst-before-src-requires
-copy-dst-before-src-requires c κs = let st = c .before .before .before .before .before .before .before .before .before in let e = far (c .before .before) in (st .pre .0, (omega arith, st .pre .1 .1))
+copy-dst-before-src-requires c κs =
+    let st = c .before .before .before .before .before .before .before .before .before in let e = far
+    (c .before .before) in (st .pre .0, (omega arith, st .pre .1 .1))
 
 same-length : tie.Need-same-length
 same-length c = search needs

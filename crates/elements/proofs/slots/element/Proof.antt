@@ -14,7 +14,8 @@ use Rattle.elements.proofs.slots.element.Tie as tie
 slot : (c : tie.After-as-index) → c .as-index .result < length (now (c .before .before .before .args .slots))
 slot c =
     let a = c .before .before .before .args in
-    element-in (now (a .slots)) (recOf (a .q)) (a .i) (c .before .before .before .pre .0) (c .before .before .before .pre .1) _ (c .as-index .ensures ∙ c .before .wrap-add .ensures)
+    element-in (now (a .slots)) (recOf (a .q)) (a .i) (c .before .before .before .pre .0)
+    (c .before .before .before .pre .1) _ (c .as-index .ensures ∙ c .before .wrap-add .ensures)
 
 wrap-add-requires : tie.Need-wrap-add-requires
 wrap-add-requires c κs =
@@ -32,7 +33,8 @@ shared-slice-read-result : tie.Need-shared-slice-read-result
 shared-slice-read-result c = slot (c .before)
 
 returns : tie.Need-returns
-returns c = element-is _ _ _ (c .before .before .before .before .pre .0) (c .before .before .before .before .pre .1) _ (c .before .as-index .ensures ∙ c .before .before .wrap-add .ensures)
+returns c = element-is _ _ _ (c .before .before .before .before .pre .0) (c .before .before .before .before .pre .1) _
+    (c .before .as-index .ensures ∙ c .before .before .wrap-add .ensures)
 
 pub element-spec : {M : Type 1} → statement M
 element-spec =

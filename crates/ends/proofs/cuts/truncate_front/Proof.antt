@@ -12,10 +12,13 @@ use Rattle.ends.proofs.cuts.truncate_front.Statement.{statement}
 use Rattle.ends.proofs.cuts.truncate_front.Tie as tie
 
 -- past the first tests nothing is refused
-past : (c : tie.After-enum-told) → onChange (length (now (c .before .before .before .before .args .slots))) (recOf (c .before .before .before .before .args .q)) 0 ≡ 0
+past : (c : tie.After-enum-told)
+    → onChange (length (now (c .before .before .before .before .args .slots)))
+    (recOf (c .before .before .before .before .args .q)) 0 ≡ 0
 past c = passed-zero _ _ (c .before .before .check-change .ensures) (c .enum-told .given .1)
 
-ok : (c : tie.After-enum-told) → Fine (now (c .before .before .before .before .args .slots)) (recOf (c .before .before .before .before .args .q))
+ok : (c : tie.After-enum-told)
+    → Fine (now (c .before .before .before .before .args .slots)) (recOf (c .before .before .before .before .args .q))
 ok c = fine-change _ _ (past c)
 
 check-change-requires : tie.Need-check-change-requires
@@ -30,7 +33,8 @@ refused-requires c κs = search needs
 returns : tie.Need-returns
 returns c =
     rw (c .refused .ensures)
-    (told-first _ _ _ (c .before .before .before .before .check-change .ensures) _ _ (c .before .before .refusal .given .1))
+    (told-first _ _ _ (c .before .before .before .before .check-change .ensures) _ _
+    (c .before .before .refusal .given .1))
 
 enum-told : tie.Need-enum-told
 enum-told c = search needs
@@ -48,7 +52,8 @@ stepped-requires : tie.Need-stepped-requires
 stepped-requires c κs = search needs
 
 returns-3 : tie.Need-returns-3
-returns-3 c = front-cut _ _ (past (c .before .before .before)) _ _ _ (c .before .before .if1 .left) (c .before .wrap-add .ensures) (c .stepped .ensures)
+returns-3 c = front-cut _ _ (past (c .before .before .before)) _ _ _ (c .before .before .if1 .left)
+    (c .before .wrap-add .ensures) (c .stepped .ensures)
 
 pub truncate-front-spec : {M : Type 1} → statement M
 truncate-front-spec =

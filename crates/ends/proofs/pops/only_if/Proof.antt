@@ -20,7 +20,8 @@ enum-told-2 : tie.Need-enum-told-2
 enum-told-2 c = search needs
 
 returns-2 : tie.Need-returns-2
-returns-2 c = dropped _ _ _ _ _ _ _ (c .before .before .before .popped .given .1) (c .before .meets .ensures) (c .if1 .left)
+returns-2 c = dropped _ _ _ _ _ _ _ (c .before .before .before .popped .given .1) (c .before .meets .ensures)
+    (c .if1 .left)
 
 returns-3 : tie.Need-returns-3
 returns-3 c = nothing _ _ _ _ _ (c .enum-told .given .1)

@@ -14,18 +14,28 @@ use Rattle.ends.proofs.pushes.push_front.Statement.{statement}
 use Rattle.ends.proofs.pushes.push_front.Tie as tie
 
 -- past the first tests nothing is refused
-past : (c : tie.After-enum-told) → onChange (length (now (c .before .before .before .before .args .slots))) (recOf (c .before .before .before .before .args .q)) 0 ≡ 0
+past : (c : tie.After-enum-told)
+    → onChange (length (now (c .before .before .before .before .args .slots)))
+    (recOf (c .before .before .before .before .args .q)) 0 ≡ 0
 past c = passed-zero _ _ (c .before .before .check-change .ensures) (c .enum-told .given .1)
 
-ok : (c : tie.After-enum-told) → Fine (now (c .before .before .before .before .args .slots)) (recOf (c .before .before .before .before .args .q))
+ok : (c : tie.After-enum-told)
+    → Fine (now (c .before .before .before .before .args .slots)) (recOf (c .before .before .before .before .args .q))
 ok c = fine-change _ _ (past c)
 
 -- the slot that is stored to
-slot : (c : tie.After-as-index) → c .as-index .result < length (now (c .before .before .before .before .before .before .before .before .args .slots))
+slot : (c : tie.After-as-index)
+    → c .as-index .result < length
+    (now (c .before .before .before .before .before .before .before .before .args .slots))
 slot c =
     let a = c .before .before .before .before .before .before .before .before .args in
     let g = ok (c .before .before .before .before) .good in
-    omega (arith, c .as-index .ensures, c .before .wrap-sub .ensures, place-low (length (now (a .slots))) (a .q .head .0) (omega arith) (length (now (a .slots)) - 1) (omega arith))
+    omega (
+      arith,
+      c .as-index .ensures,
+      c .before .wrap-sub .ensures,
+      place-low (length (now (a .slots))) (a .q .head .0) (omega arith) (length (now (a .slots)) - 1) (omega arith),
+    )
 
 check-change-requires : tie.Need-check-change-requires
 check-change-requires c κs = search needs
@@ -39,7 +49,8 @@ refused-requires c κs = search needs
 returns : tie.Need-returns
 returns c =
     rw (c .refused .ensures)
-    (told-first _ _ _ (c .before .before .before .before .check-change .ensures) _ _ (c .before .before .refusal .given .1))
+    (told-first _ _ _ (c .before .before .before .before .check-change .ensures) _ _
+    (c .before .before .refusal .given .1))
 
 enum-told : tie.Need-enum-told
 enum-told c = search needs
@@ -66,7 +77,9 @@ same-length : tie.Need-same-length
 same-length c = search needs
 
 returns-2 : tie.Need-returns-2
-returns-2 c = front-pushed _ _ (past (c .before .before .before .before .before .before)) _ _ _ _ (λ full. omega (arith, c .before .before .before .before .if1 .taken, full)) (c .before .before .as-index .ensures) (c .before .before .before .wrap-sub .ensures) (c .stepped .ensures)
+returns-2 c = front-pushed _ _ (past (c .before .before .before .before .before .before)) _ _ _ _
+    (λ full. omega (arith, c .before .before .before .before .if1 .taken, full)) (c .before .before .as-index .ensures)
+    (c .before .before .before .wrap-sub .ensures) (c .stepped .ensures)
 
 refused-requires-2 : tie.Need-refused-requires-2
 refused-requires-2 c κs = search needs

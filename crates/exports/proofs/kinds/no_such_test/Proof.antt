@@ -24,7 +24,9 @@ returns : tie.Need-returns
 returns c =
     c .refuses .ensures
     ∙ ap (λ (n : ℕ). said n 0 none)
-    (sym (change-stop _ _ 3 _ (some-number _) (failed-number _ _ _ (c .before .before .before .before .check-change .ensures) (c .before .before .refusal .given .1))))
+    (sym (change-stop _ _ 3 _ (some-number _)
+    (failed-number _ _ _ (c .before .before .before .before .check-change .ensures)
+    (c .before .before .refusal .given .1))))
 
 enum-told : tie.Need-enum-told
 enum-told c = search needs
@@ -35,7 +37,9 @@ refuses-requires-2 c κs = search needs
 returns-2 : tie.Need-returns-2
 unfolding numberOf
 returns-2 c =
-    c .refuses2 .ensures ∙ ap (λ (n : ℕ). said n 0 none) (sym (change-go _ _ 3 (passed-zero _ _ (c .before .before .before .check-change .ensures) (c .before .enum-told .given .1))))
+    c .refuses2 .ensures ∙ ap (λ (n : ℕ). said n 0 none)
+    (sym (change-go _ _ 3 (passed-zero _ _ (c .before .before .before .check-change .ensures)
+    (c .before .enum-told .given .1))))
 
 pub no-such-test-spec : {M : Type 1} → statement M
 no-such-test-spec =

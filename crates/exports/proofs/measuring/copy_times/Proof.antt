@@ -13,7 +13,8 @@ use Rattle.exports.proofs.measuring.copy_times.Statement.{statement}
 use Rattle.exports.proofs.measuring.copy_times.Tie as tie
 
 abbrev Inv-loop : tie.InvT-loop
-Inv-loop slots₀ src dst n times i₀ slots i = (i ≤ times) × ((length slots ≡ length slots₀) × (slots ≡ copiedTimes i slots₀ (src .0) (dst .0) n))
+Inv-loop slots₀ src dst n times i₀ slots i =
+    (i ≤ times) × ((length slots ≡ length slots₀) × (slots ≡ copiedTimes i slots₀ (src .0) (dst .0) n))
 
 abbrev μ-loop : tie.MeasureT-loop
 μ-loop slots₀ src dst n times i₀ slots i = times - i
@@ -41,7 +42,8 @@ loop-again c =
       omega arith,
       (
         ap length e ∙ length-lay (l .slots) (a .dst .0) (listOf (l .slots) (a .src .0) (a .n)) ∙ l .inv .1 .0,
-        e ∙ ap (λ (b : List ℕ). copied b (a .src .0) (a .dst .0) (a .n)) (l .inv .1 .1) ∙ ap (λ (k : ℕ). copiedTimes k (now (a .slots)) (a .src .0) (a .dst .0) (a .n)) up,
+        e ∙ ap (λ (b : List ℕ). copied b (a .src .0) (a .dst .0) (a .n)) (l .inv .1 .1)
+            ∙ ap (λ (k : ℕ). copiedTimes k (now (a .slots)) (a .src .0) (a .dst .0) (a .n)) up,
       ),
     )
 

@@ -21,13 +21,15 @@ returns-3 : tie.Need-returns-3
 returns-3 c = from-out _ _ _ _ _ (omega arith) (ends-out _ _ _ (omega arith) (omega arith))
 
 returns-4 : tie.Need-returns-4
-returns-4 c = to-out _ _ _ _ _ (omega arith) (lies-in _ _ _ (omega arith) (omega arith)) (starts-out _ _ _ (omega arith))
+returns-4 c = to-out _ _ _ _ _ (omega arith) (lies-in _ _ _ (omega arith) (omega arith))
+    (starts-out _ _ _ (omega arith))
 
 sub-if5 : tie.Need-sub-if5
 sub-if5 c = search needs
 
 returns-5 : tie.Need-returns-5
-returns-5 c = to-out _ _ _ _ _ (omega arith) (lies-in _ _ _ (omega arith) (omega arith)) (ends-out _ _ _ (omega arith) (omega arith))
+returns-5 c = to-out _ _ _ _ _ (omega arith) (lies-in _ _ _ (omega arith) (omega arith))
+    (ends-out _ _ _ (omega arith) (omega arith))
 
 from-arbitrary-number-requires : tie.Need-from-arbitrary-number-requires
 from-arbitrary-number-requires c κs = search needs
@@ -42,7 +44,10 @@ same-length : tie.Need-same-length
 same-length c = search needs
 
 returns-6 : tie.Need-returns-6
-returns-6 c = copies-it _ _ _ _ _ (omega arith) _ _ _ (c .before .before .before .before .before .from-arbitrary-number .ensures) (c .before .before .before .before .from-arbitrary-number2 .ensures) (c .before .before .copy-times .ensures) (lies-in _ _ _ (omega arith) (omega arith)) (lies-in _ _ _ (omega arith) (omega arith))
+returns-6 c = copies-it _ _ _ _ _ (omega arith) _ _ _
+    (c .before .before .before .before .before .from-arbitrary-number .ensures)
+    (c .before .before .before .before .from-arbitrary-number2 .ensures) (c .before .before .copy-times .ensures)
+    (lies-in _ _ _ (omega arith) (omega arith)) (lies-in _ _ _ (omega arith) (omega arith))
 
 pub scorebucket-copy-spec : {M : Type 1} → statement M
 scorebucket-copy-spec =

@@ -22,7 +22,9 @@ returns : tie.Need-returns
 returns c =
     c .of-point .ensures
     ∙ ap (λ (n : ℕ). (n, 0))
-    (sym (queue-stop _ _ 3 _ (some-number _) (failed-number _ _ _ (c .before .before .before .before .check .ensures) (c .before .before .refusal .given .1))))
+    (sym (queue-stop _ _ 3 _ (some-number _)
+    (failed-number _ _ _ (c .before .before .before .before .check .ensures)
+    (c .before .before .refusal .given .1))))
 
 enum-told : tie.Need-enum-told
 enum-told c = search needs
@@ -33,7 +35,9 @@ of-point-requires-2 c κs = search needs
 returns-2 : tie.Need-returns-2
 unfolding numberOf
 returns-2 c =
-    c .of-point2 .ensures ∙ ap (λ (n : ℕ). (n, 0)) (sym (queue-go _ _ 3 (passed-zero _ _ (c .before .before .before .check .ensures) (c .before .enum-told .given .1))))
+    c .of-point2 .ensures ∙ ap (λ (n : ℕ). (n, 0))
+    (sym (queue-go _ _ 3 (passed-zero _ _ (c .before .before .before .check .ensures)
+    (c .before .enum-told .given .1))))
 
 pub no-such-point-spec : {M : Type 1} → statement M
 no-such-point-spec =

@@ -12,10 +12,13 @@ use Rattle.joins.proofs.queues.check_append.Statement.{statement}
 use Rattle.joins.proofs.queues.check_append.Tie as tie
 
 -- past our queue's tests, and past the other's, nothing is refused
-past : (c : tie.After-enum-told) → onChange (c .before .before .before .args .cap) (recOf (c .before .before .before .args .q)) 0 ≡ 0
+past : (c : tie.After-enum-told)
+    → onChange (c .before .before .before .args .cap) (recOf (c .before .before .before .args .q)) 0 ≡ 0
 past c = passed-zero _ _ (c .before .before .check-change .ensures) (c .enum-told .given .1)
 
-past-other : (c : tie.After-enum-told2) → onChange (c .before .before .before .before .before .before .args .other-cap) (recOf (c .before .before .before .before .before .before .args .other)) 0 ≡ 0
+past-other : (c : tie.After-enum-told2)
+    → onChange (c .before .before .before .before .before .before .args .other-cap)
+    (recOf (c .before .before .before .before .before .before .args .other)) 0 ≡ 0
 past-other c = passed-zero _ _ (c .before .before .check-change2 .ensures) (c .enum-told2 .given .1)
 
 check-change-requires : tie.Need-check-change-requires
@@ -39,7 +42,8 @@ enum-known-refusal-2 c = search needs
 
 returns-2 : tie.Need-returns-2
 unfolding onAppending
-returns-2 c = queue-passes _ _ _ _ (past (c .before .before .before .before)) (queue-refuses _ _ _ _ _ (c .before .before .before .check-change2 .ensures) (c .before .refusal2 .given .1))
+returns-2 c = queue-passes _ _ _ _ (past (c .before .before .before .before))
+    (queue-refuses _ _ _ _ _ (c .before .before .before .check-change2 .ensures) (c .before .refusal2 .given .1))
 
 enum-told-2 : tie.Need-enum-told-2
 enum-told-2 c = search needs
@@ -49,11 +53,14 @@ sub-if1 c = let g = change-ok _ _ 0 (past (c .before .before .before .before)) .
 
 returns-3 : tie.Need-returns-3
 unfolding onAppending
-returns-3 c = queue-passes _ _ _ _ (past (c .before .before .before .before .before .before)) (queue-passes _ _ _ _ (past-other (c .before .before .before)) (room-refuses _ _ (omega arith)))
+returns-3 c = queue-passes _ _ _ _ (past (c .before .before .before .before .before .before))
+    (queue-passes _ _ _ _ (past-other (c .before .before .before)) (room-refuses _ _ (omega arith)))
 
 returns-4 : tie.Need-returns-4
 unfolding onAppending
-returns-4 c = let g = change-ok _ _ 0 (past (c .before .before .before .before .before .before)) .0 in queue-passes _ _ _ _ (past (c .before .before .before .before .before .before)) (queue-passes _ _ _ _ (past-other (c .before .before .before)) (room-passes _ _ (omega arith)))
+returns-4 c = let g = change-ok _ _ 0 (past (c .before .before .before .before .before .before)) .0 in queue-passes _ _
+    _ _ (past (c .before .before .before .before .before .before))
+    (queue-passes _ _ _ _ (past-other (c .before .before .before)) (room-passes _ _ (omega arith)))
 
 pub check-append-spec : {M : Type 1} → statement M
 check-append-spec =

@@ -29,7 +29,8 @@ same-length c = search needs
 
 returns : tie.Need-returns
 returns c =
-    stays-shut _ _ _ _ (c .before .before .of-opened .ensures) (c .before .before .before .drain .ensures) _ (ap stateOf (c .enum-told .given .1))
+    stays-shut _ _ _ _ (c .before .before .of-opened .ensures) (c .before .before .before .drain .ensures) _
+    (ap stateOf (c .enum-told .given .1))
 
 same-length-2 : tie.Need-same-length-2
 same-length-2 c = search needs

@@ -107,63 +107,72 @@ same-length c = search needs
 
 returns : tie.Need-returns
 unfolding doEntry
-returns c = performs _ _ _ _ _ _ _ (c .before .before .before .before .before .before .operation .given .1) (c .of-change .ensures) (c .before .before .before .push-back .ensures)
+returns c = performs _ _ _ _ _ _ _ (c .before .before .before .before .before .before .operation .given .1)
+    (c .of-change .ensures) (c .before .before .before .push-back .ensures)
 
 same-length-2 : tie.Need-same-length-2
 same-length-2 c = search needs
 
 returns-2 : tie.Need-returns-2
 unfolding doEntry
-returns-2 c = performs _ _ _ _ _ _ _ (c .before .before .before .before .before .before .operation2 .given .1) (c .of-change2 .ensures) (c .before .before .before .push-front .ensures)
+returns-2 c = performs _ _ _ _ _ _ _ (c .before .before .before .before .before .before .operation2 .given .1)
+    (c .of-change2 .ensures) (c .before .before .before .push-front .ensures)
 
 same-length-3 : tie.Need-same-length-3
 same-length-3 c = search needs
 
 returns-3 : tie.Need-returns-3
 unfolding doEntry
-returns-3 c = performs _ _ _ _ _ _ _ (c .before .before .before .enum-told .given .1) (c .of-handed .ensures) (c .before .pop-front .ensures)
+returns-3 c = performs _ _ _ _ _ _ _ (c .before .before .before .enum-told .given .1) (c .of-handed .ensures)
+    (c .before .pop-front .ensures)
 
 same-length-4 : tie.Need-same-length-4
 same-length-4 c = search needs
 
 returns-4 : tie.Need-returns-4
 unfolding doEntry
-returns-4 c = performs _ _ _ _ _ _ _ (c .before .before .before .enum-told2 .given .1) (c .of-handed2 .ensures) (c .before .pop-back .ensures)
+returns-4 c = performs _ _ _ _ _ _ _ (c .before .before .before .enum-told2 .given .1) (c .of-handed2 .ensures)
+    (c .before .pop-back .ensures)
 
 same-length-5 : tie.Need-same-length-5
 same-length-5 c = search needs
 
 returns-5 : tie.Need-returns-5
 unfolding doEntry
-returns-5 c = performs _ _ _ _ _ _ _ (c .before .before .before .before .before .operation3 .given .1) refl (c .before .before .drain-closed .ensures)
+returns-5 c = performs _ _ _ _ _ _ _ (c .before .before .before .before .before .operation3 .given .1) refl
+    (c .before .before .drain-closed .ensures)
 
 same-length-6 : tie.Need-same-length-6
 same-length-6 c = search needs
 
 returns-6 : tie.Need-returns-6
 unfolding doEntry
-returns-6 c = performs _ _ _ _ _ _ _ (c .before .before .before .before .operation4 .given .1) (c .of-change3 .ensures) (c .before .truncate .ensures)
+returns-6 c = performs _ _ _ _ _ _ _ (c .before .before .before .before .operation4 .given .1) (c .of-change3 .ensures)
+    (c .before .truncate .ensures)
 
 same-length-7 : tie.Need-same-length-7
 same-length-7 c = search needs
 
 returns-7 : tie.Need-returns-7
 unfolding doEntry
-returns-7 c = performs _ _ _ _ _ _ _ (c .before .before .before .before .operation5 .given .1) (c .of-change4 .ensures) (c .before .truncate-front .ensures)
+returns-7 c = performs _ _ _ _ _ _ _ (c .before .before .before .before .operation5 .given .1) (c .of-change4 .ensures)
+    (c .before .truncate-front .ensures)
 
 same-length-8 : tie.Need-same-length-8
 same-length-8 c = search needs
 
 returns-8 : tie.Need-returns-8
 unfolding doEntry
-returns-8 c = performs _ _ _ _ _ _ _ (c .before .before .before .before .before .before .operation6 .given .1) (c .of-change5 .ensures) (c .before .before .before .insert .ensures)
+returns-8 c = performs _ _ _ _ _ _ _ (c .before .before .before .before .before .before .operation6 .given .1)
+    (c .of-change5 .ensures) (c .before .before .before .insert .ensures)
 
 same-length-9 : tie.Need-same-length-9
 same-length-9 c = search needs
 
 returns-9 : tie.Need-returns-9
 unfolding doEntry
-returns-9 c = performs _ _ _ _ _ _ _ (c .before .before .before .before .before .before .operation7 .given .1) (c .of-handed3 .ensures) (c .before .before .before .remove .ensures)
+returns-9 c = performs _ _ _ _ _ _ _ (c .before .before .before .before .before .before .operation7 .given .1)
+    (c .of-handed3 .ensures) (c .before .before .before .remove .ensures)
 
 pub perform-spec : {M : Type 1} → statement M
 perform-spec =

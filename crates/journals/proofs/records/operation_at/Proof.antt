@@ -30,7 +30,8 @@ with-one-requires c κs = search needs
 
 returns-2 : tie.Need-returns-2
 unfolding wordAt
-returns-2 c = let a = c .before .before .before .before .before .args in c .with-one .ensures _ ∙ ap (λ (x : ℕ). entryOf (a .o) x (wordAt (now (a .bytes)) (a .at + 8))) (c .before .four-at .ensures)
+returns-2 c = let a = c .before .before .before .before .before .args in c .with-one .ensures _
+    ∙ ap (λ (x : ℕ). entryOf (a .o) x (wordAt (now (a .bytes)) (a .at + 8))) (c .before .four-at .ensures)
 
 add-four-at-2 : tie.Need-add-four-at-2
 add-four-at-2 c = search needs
@@ -45,11 +46,13 @@ four-at-requires-3 : tie.Need-four-at-requires-3
 four-at-requires-3 c κs = let n = longest (c .before) in omega arith
 
 with-two-requires : tie.Need-with-two-requires
-with-two-requires c κs = let n = longest (c .before .before) in sym (c .before .before .before .before .before .pre .0) ∙ n
+with-two-requires c κs = let n = longest (c .before .before) in sym (c .before .before .before .before .before .pre .0)
+    ∙ n
 
 returns-3 : tie.Need-returns-3
 unfolding wordAt
-returns-3 c = let a = c .before .before .before .before .before .before .args in c .with-two .ensures ∙ (λ i. entryOf (a .o) (c .before .before .four-at2 .ensures i) (c .before .four-at3 .ensures i))
+returns-3 c = let a = c .before .before .before .before .before .before .args in c .with-two .ensures
+    ∙ (λ i. entryOf (a .o) (c .before .before .four-at2 .ensures i) (c .before .four-at3 .ensures i))
 
 pub operation-at-spec : {M : Type 1} → statement M
 operation-at-spec =

@@ -28,7 +28,9 @@ some-length-requires : tie.Need-some-length-requires
 some-length-requires c κs = search needs
 
 returns-3 : tie.Need-returns-3
-returns-3 c = cut-in-version _ _ (c .before .before .before .before .before .if1 .left) (c .before .before .before .before .if2 .left) _ (c .before .before .before .two-at .ensures) (known (c .before)) (c .if4 .taken)
+returns-3 c = cut-in-version _ _ (c .before .before .before .before .before .if1 .left)
+    (c .before .before .before .before .if2 .left) _ (c .before .before .before .two-at .ensures) (known (c .before))
+    (c .if4 .taken)
 
 add-seen : tie.Need-add-seen
 add-seen c = search needs
@@ -37,10 +39,16 @@ shared-slice-read-seen : tie.Need-shared-slice-read-seen
 shared-slice-read-seen c = search needs
 
 returns-4 : tie.Need-returns-4
-returns-4 c = wrong-version _ _ (c .before .before .before .before .before .before .before .if1 .left) (c .before .before .before .before .before .before .if2 .left) _ (c .before .before .before .before .before .two-at .ensures) (known (c .before .before .before)) (c .before .before .if4 .left) (c .if5 .taken)
+returns-4 c = wrong-version _ _ (c .before .before .before .before .before .before .before .if1 .left)
+    (c .before .before .before .before .before .before .if2 .left) _
+    (c .before .before .before .before .before .two-at .ensures) (known (c .before .before .before))
+    (c .before .before .if4 .left) (c .if5 .taken)
 
 returns-5 : tie.Need-returns-5
-returns-5 c = cut-in-operation _ _ (c .before .before .before .before .before .before .before .before .if1 .left) (c .before .before .before .before .before .before .before .if2 .left) _ (c .before .before .before .before .before .before .two-at .ensures) (known (c .before .before .before .before)) (c .before .before .before .if4 .left) (c .before .if5 .left) (c .if6 .taken)
+returns-5 c = cut-in-operation _ _ (c .before .before .before .before .before .before .before .before .if1 .left)
+    (c .before .before .before .before .before .before .before .if2 .left) _
+    (c .before .before .before .before .before .before .two-at .ensures) (known (c .before .before .before .before))
+    (c .before .before .before .if4 .left) (c .before .if5 .left) (c .if6 .taken)
 
 add-o : tie.Need-add-o
 add-o c = search needs
@@ -52,16 +60,34 @@ length-of-requires : tie.Need-length-of-requires
 length-of-requires c κs = search needs
 
 returns-6 : tie.Need-returns-6
-returns-6 c = wrong-operation _ _ (c .before .before .before .before .before .before .before .before .before .before .before .if1 .left) (c .before .before .before .before .before .before .before .before .before .before .if2 .left) _ (c .before .before .before .before .before .before .before .before .before .two-at .ensures) (known (c .before .before .before .before .before .before .before)) (c .before .before .before .before .before .before .if4 .left) (c .before .before .before .before .if5 .left) (c .before .before .before .if6 .left) _ (c .before .length-of .ensures) (c .if7 .taken)
+returns-6 c = wrong-operation _ _
+    (c .before .before .before .before .before .before .before .before .before .before .before .if1 .left)
+    (c .before .before .before .before .before .before .before .before .before .before .if2 .left) _
+    (c .before .before .before .before .before .before .before .before .before .two-at .ensures)
+    (known (c .before .before .before .before .before .before .before))
+    (c .before .before .before .before .before .before .if4 .left) (c .before .before .before .before .if5 .left)
+    (c .before .before .before .if6 .left) _ (c .before .length-of .ensures) (c .if7 .taken)
 
 add-if8 : tie.Need-add-if8
 add-if8 c = let n = short-length _ (known (c .before .before .before .before .before .before .before)) in omega arith
 
 returns-7 : tie.Need-returns-7
-returns-7 c = cut-in-operands _ _ (c .before .before .before .before .before .before .before .before .before .before .before .before .if1 .left) (c .before .before .before .before .before .before .before .before .before .before .before .if2 .left) _ (c .before .before .before .before .before .before .before .before .before .before .two-at .ensures) (known (c .before .before .before .before .before .before .before .before)) (c .before .before .before .before .before .before .before .if4 .left) (c .before .before .before .before .before .if5 .left) (c .before .before .before .before .if6 .left) _ (c .before .before .length-of .ensures) (c .before .if7 .left) (c .if8 .taken)
+returns-7 c = cut-in-operands _ _
+    (c .before .before .before .before .before .before .before .before .before .before .before .before .if1 .left)
+    (c .before .before .before .before .before .before .before .before .before .before .before .if2 .left) _
+    (c .before .before .before .before .before .before .before .before .before .before .two-at .ensures)
+    (known (c .before .before .before .before .before .before .before .before))
+    (c .before .before .before .before .before .before .before .if4 .left)
+    (c .before .before .before .before .before .if5 .left) (c .before .before .before .before .if6 .left) _
+    (c .before .before .length-of .ensures) (c .before .if7 .left) (c .if8 .taken)
 
 operation-at-requires : tie.Need-operation-at-requires
-operation-at-requires c κs = (c .before .if7 .left ∙ c .before .before .length-of .ensures, known (c .before .before .before .before .before .before .before .before), omega arith)
+operation-at-requires c κs = (
+  c .before .if7 .left
+      ∙ c .before .before .length-of .ensures,
+  known (c .before .before .before .before .before .before .before .before),
+  omega arith,
+)
 
 add-t11 : tie.Need-add-t11
 add-t11 c = search needs
@@ -70,10 +96,18 @@ add-t16 : tie.Need-add-t16
 add-t16 c = search needs
 
 returns-8 : tie.Need-returns-8
-returns-8 c = takes _ _ (c .before .before .before .before .before .before .before .before .before .before .before .before .before .if1 .left) (c .before .before .before .before .before .before .before .before .before .before .before .before .if2 .left) _ (c .before .before .before .before .before .before .before .before .before .before .before .two-at .ensures) (known (c .before .before .before .before .before .before .before .before .before)) (c .before .before .before .before .before .before .before .before .if4 .left) (c .before .before .before .before .before .before .if5 .left) (c .before .before .before .before .before .if6 .left) _ (c .before .before .before .length-of .ensures) (c .before .before .if7 .left) _ _ (c .before .if8 .left) (c .operation-at .ensures) refl
+returns-8 c = takes _ _ (c .before .before .before .before .before .before .before .before .before .before .before
+    .before .before .if1 .left) (c .before .before .before .before .before .before .before .before .before .before
+    .before .before .if2 .left) _ (c .before .before .before .before .before .before .before .before .before .before
+    .before .two-at .ensures) (known (c .before .before .before .before .before .before .before .before .before))
+    (c .before .before .before .before .before .before .before .before .if4 .left)
+    (c .before .before .before .before .before .before .if5 .left)
+    (c .before .before .before .before .before .if6 .left) _ (c .before .before .before .length-of .ensures)
+    (c .before .before .if7 .left) _ _ (c .before .if8 .left) (c .operation-at .ensures) refl
 
 returns-9 : tie.Need-returns-9
-returns-9 c = wrong-length _ _ (c .before .before .before .before .if1 .left) (c .before .before .before .if2 .left) _ (c .before .before .two-at .ensures) (sym (c .before .some-length .ensures) ∙ c .if3 .left)
+returns-9 c = wrong-length _ _ (c .before .before .before .before .if1 .left) (c .before .before .before .if2 .left) _
+    (c .before .before .two-at .ensures) (sym (c .before .some-length .ensures) ∙ c .if3 .left)
 
 pub record-at-spec : {M : Type 1} → statement M
 record-at-spec =

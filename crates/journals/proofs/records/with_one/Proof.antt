@@ -22,7 +22,8 @@ unfolding entryOf whether
 returns-4 c = λ y. entry-known _ _ _ y (c .if4 .taken)
 
 returns-5 : tie.Need-returns-5
-returns-5 c = λ y. other-one _ _ y (c .before .before .before .before .pre) (c .before .before .before .if1 .left) (c .before .before .if2 .left) (c .before .if3 .left) (c .if4 .left)
+returns-5 c = λ y. other-one _ _ y (c .before .before .before .before .pre) (c .before .before .before .if1 .left)
+    (c .before .before .if2 .left) (c .before .if3 .left) (c .if4 .left)
 
 pub with-one-spec : {M : Type 1} → statement M
 with-one-spec = tie.close (tie.spec returns returns-2 returns-3 returns-4 returns-5)

@@ -68,7 +68,9 @@ put-digits-put-digits-requires : (t : ℕ) → put-digits-lts.Need-put-digits-re
   put-digits-below t,
   put-digits.Post,
 ) (put-digits-at t) put-digits.Post
-put-digits-put-digits-requires t c κs = let e = digits-room (c .before .before .before .args .n) (c .before .if1 .left) in (omega (arith, c .before .before .before .pre .0), omega (arith, c .before .before .before .pre .1))
+put-digits-put-digits-requires t c κs =
+    let e = digits-room (c .before .before .before .args .n) (c .before .if1 .left)
+    in (omega (arith, c .before .before .before .pre .0), omega (arith, c .before .before .before .pre .1))
 
 put-digits-add-out-2 : (t : ℕ) → put-digits-lts.Need-add-out-2 (
   put-digits-below t,
@@ -86,13 +88,16 @@ put-digits-slice-write-out-2 : (t : ℕ) → put-digits-lts.Need-slice-write-out
   put-digits-below t,
   put-digits.Post,
 ) (put-digits-at t) put-digits.Post
-put-digits-slice-write-out-2 t c = let e = digits-room (c .before .before .before .before .before .before .args .n) (c .before .before .before .before .if1 .left) in omega arith
+put-digits-slice-write-out-2 t c =
+    let e = digits-room (c .before .before .before .before .before .before .args .n)
+    (c .before .before .before .before .if1 .left) in omega arith
 
 put-digits-add-result-2 : (t : ℕ) → put-digits-lts.Need-add-result-2 (
   put-digits-below t,
   put-digits.Post,
 ) (put-digits-at t) put-digits.Post
-put-digits-add-result-2 t c = let e = digits-room (c .before .before .before .before .before .before .args .n) (c .before .before .before .before .if1 .left) in omega arith
+put-digits-add-result-2 t c = let e = digits-room (c .before .before .before .before .before .before .args .n)
+    (c .before .before .before .before .if1 .left) in omega arith
 
 put-digits-same-length-2 : (t : ℕ) → put-digits-lts.Need-same-length-2 (
   put-digits-below t,
@@ -104,7 +109,8 @@ put-digits-returns-2 : (t : ℕ) → put-digits-lts.Need-returns-2 (
   put-digits-below t,
   put-digits.Post,
 ) (put-digits-at t) put-digits.Post
-put-digits-returns-2 t c = puts-digits _ _ _ _ _ (c .before .before .before .before .if1 .left) (c .before .before .put-digits .ensures)
+put-digits-returns-2 t c = puts-digits _ _ _ _ _ (c .before .before .before .before .if1 .left)
+    (c .before .before .put-digits .ensures)
 
 pub +put-digits-spec : {M : Type 1} → statement M
 +put-digits-spec = close μ-put-digits λ t. put-digits-lts.spec (

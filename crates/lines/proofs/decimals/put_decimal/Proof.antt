@@ -12,7 +12,14 @@ same-length : tie.Need-same-length
 same-length c = search needs
 
 returns : tie.Need-returns
-returns c = (c .before .before .put-digits .ensures, omega (arith, c .before .before .put-digits .ensures .next, twenty-digits (c .before .before .before .before .before .args .n) (omega arith)))
+returns c = (
+  c .before .before .put-digits .ensures,
+  omega (
+    arith,
+    c .before .before .put-digits .ensures .next,
+    twenty-digits (c .before .before .before .before .before .args .n) (omega arith),
+  ),
+)
 
 pub put-decimal-spec : {M : Type 1} → statement M
 put-decimal-spec = tie.close (tie.spec put-digits-requires same-length returns)

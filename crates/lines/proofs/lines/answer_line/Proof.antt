@@ -22,8 +22,18 @@ same-length c = search needs
 
 returns : tie.Need-returns
 returns c = (
-  puts-answer _ _ _ _ _ _ _ _ _ _ _ _ (c .before .before .before .before .before .before .before .before .before .before .before .before .record-or .ensures) (c .before .before .before .before .before .before .before .before .before .before .put-numbers .ensures .0) (c .before .before .before .before .before .before .put-handed .ensures .0) (c .before .before .put-newline .ensures),
-  omega (arith, c .before .before .before .before .before .before .before .before .before .before .put-numbers .ensures .1, c .before .before .before .before .before .before .put-handed .ensures .1, c .before .before .put-newline .ensures .next),
+  puts-answer _ _ _ _ _ _ _ _ _ _ _ _
+      (c .before .before .before .before .before .before .before .before .before .before .before .before .record-or
+      .ensures) (c .before .before .before .before .before .before .before .before .before .before .put-numbers .ensures
+      .0) (c .before .before .before .before .before .before .put-handed .ensures .0)
+      (c .before .before .put-newline .ensures),
+  omega (
+    arith,
+    c .before .before .before .before .before .before .before .before .before .before .put-numbers .ensures
+        .1,
+    c .before .before .before .before .before .before .put-handed .ensures .1,
+    c .before .before .put-newline .ensures .next,
+  ),
 )
 
 pub answer-line-spec : {M : Type 1} → statement M

@@ -16,8 +16,13 @@ same-length c = search needs
 
 returns : tie.Need-returns
 returns c = (
-  puts-broken _ _ _ _ _ _ _ (c .before .before .before .before .before .before .put-numbers .ensures .0) (c .before .before .put-newline .ensures),
-  omega (arith, c .before .before .before .before .before .before .put-numbers .ensures .1, c .before .before .put-newline .ensures .next),
+  puts-broken _ _ _ _ _ _ _ (c .before .before .before .before .before .before .put-numbers .ensures .0)
+      (c .before .before .put-newline .ensures),
+  omega (
+    arith,
+    c .before .before .before .before .before .before .put-numbers .ensures .1,
+    c .before .before .put-newline .ensures .next,
+  ),
 )
 
 pub broken-line-spec : {M : Type 1} → statement M

@@ -30,14 +30,24 @@ same-length c = search needs
 
 returns : tie.Need-returns
 unfolding numberOrNone
-returns c = (puts-as _ _ _ _ _ _ (ap (λ (h : Given). space ∷ numberOrNone (ofGiven h)) (sym (c .before .before .before .before .before .handed .given .1))) (c .before .before .put-word .ensures .0), c .before .before .put-word .ensures .1)
+returns c = (
+  puts-as _ _ _ _ _ _
+      (ap (λ (h : Given). space ∷ numberOrNone (ofGiven h))
+      (sym (c .before .before .before .before .before .handed .given .1))) (c .before .before .put-word .ensures .0),
+  c .before .before .put-word .ensures .1,
+)
 
 same-length-2 : tie.Need-same-length-2
 same-length-2 c = search needs
 
 returns-2 : tie.Need-returns-2
 unfolding numberOrNone
-returns-2 c = (puts-as _ _ _ _ _ _ (ap (λ (h : Given). space ∷ numberOrNone (ofGiven h)) (sym (c .before .before .before .before .enum-told .given .1))) (c .before .before .put-none .ensures), omega (arith, c .before .before .put-none .ensures .next))
+returns-2 c = (
+  puts-as _ _ _ _ _ _
+      (ap (λ (h : Given). space ∷ numberOrNone (ofGiven h))
+      (sym (c .before .before .before .before .enum-told .given .1))) (c .before .before .put-none .ensures),
+  omega (arith, c .before .before .put-none .ensures .next),
+)
 
 pub put-given-spec : {M : Type 1} → statement M
 put-given-spec =

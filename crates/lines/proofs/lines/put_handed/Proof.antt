@@ -13,10 +13,18 @@ same-length : tie.Need-same-length
 same-length c = search needs
 
 returns : tie.Need-returns
-returns c = (says _ _ (c .before .before .before .before .before .before .args .operation) _ _ _ (c .before .before .before .before .match .keys1) (c .before .before .put-given .ensures .0), c .before .before .put-given .ensures .1)
+returns c = (
+  says _ _ (c .before .before .before .before .before .before .args .operation) _ _ _
+      (c .before .before .before .before .match .keys1) (c .before .before .put-given .ensures .0),
+  c .before .before .put-given .ensures .1,
+)
 
 returns-2 : tie.Need-returns-2
-returns-2 c = (says-nothing _ _ (c .before .before .args .operation) (ofGiven (c .before .before .args .handed)) (c .match .keys2), omega arith)
+returns-2 c = (
+  says-nothing _ _ (c .before .before .args .operation) (ofGiven (c .before .before .args .handed))
+      (c .match .keys2),
+  omega arith,
+)
 
 pub put-handed-spec : {M : Type 1} → statement M
 put-handed-spec =

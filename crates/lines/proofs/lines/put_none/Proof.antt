@@ -45,7 +45,9 @@ returns : tie.Need-returns
 returns c =
     let t = now (c .args .out) in
     let p = c .args .at in
-    puts-more t p _ _ _ 101 _ (puts-more t p _ _ _ 110 _ (puts-more t p _ _ _ 111 _ (puts-more t p _ _ _ 110 _ (puts-one t p 32 _ refl) (omega arith)) (omega arith)) (omega arith)) (omega arith)
+    puts-more t p _ _ _ 101 _ (puts-more t p _ _ _ 110 _
+    (puts-more t p _ _ _ 111 _ (puts-more t p _ _ _ 110 _ (puts-one t p 32 _ refl) (omega arith)) (omega arith))
+    (omega arith)) (omega arith)
 
 pub put-none-spec : {M : Type 1} → statement M
 put-none-spec =

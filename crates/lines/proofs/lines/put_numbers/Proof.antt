@@ -25,8 +25,22 @@ same-length c = search needs
 
 returns : tie.Need-returns
 returns c = (
-  puts-numbers _ _ _ _ _ _ _ _ _ _ _ _ _ _ (c .before .before .before .before .before .before .before .as-index .ensures) (c .before .before .before .before .before .before .before .before .before .before .before .before .before .before .before .before .put-decimal .ensures .0) (c .before .before .before .before .before .before .before .before .before .before .before .before .put-word .ensures .0) (c .before .before .before .before .before .before .put-word2 .ensures .0) (c .before .before .put-word3 .ensures .0),
-  omega (arith, c .before .before .before .before .before .before .before .before .before .before .before .before .before .before .before .before .put-decimal .ensures .1, c .before .before .before .before .before .before .before .before .before .before .before .before .put-word .ensures .1, c .before .before .before .before .before .before .put-word2 .ensures .1, c .before .before .put-word3 .ensures .1),
+  puts-numbers _ _ _ _ _ _ _ _ _ _ _ _ _ _
+      (c .before .before .before .before .before .before .before .as-index .ensures)
+      (c .before .before .before .before .before .before .before .before .before .before .before .before .before .before
+      .before .before .put-decimal .ensures .0)
+      (c .before .before .before .before .before .before .before .before .before .before .before .before .put-word
+      .ensures .0) (c .before .before .before .before .before .before .put-word2 .ensures .0)
+      (c .before .before .put-word3 .ensures .0),
+  omega (
+    arith,
+    c .before .before .before .before .before .before .before .before .before .before .before .before
+        .before .before .before .before .put-decimal .ensures .1,
+    c .before .before .before .before .before .before .before .before .before .before .before .before .put-word
+        .ensures .1,
+    c .before .before .before .before .before .before .put-word2 .ensures .1,
+    c .before .before .put-word3 .ensures .1,
+  ),
 )
 
 pub put-numbers-spec : {M : Type 1} → statement M

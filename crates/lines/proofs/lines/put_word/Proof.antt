@@ -24,8 +24,10 @@ same-length c = c .before .before .put-decimal .kept .0 ∙ simp length-set
 returns : tie.Need-returns
 returns c =
     let t = now (c .before .before .before .before .before .args .out) in
-    let p = c .before .before .before .before .before .args .at in
-    (puts-append t p _ _ _ _ _ _ (puts-one t p 32 (p + 1) refl) (c .before .before .put-decimal .ensures .0), omega (arith, c .before .before .put-decimal .ensures .1))
+    let p = c .before .before .before .before .before .args .at in (
+      puts-append t p _ _ _ _ _ _ (puts-one t p 32 (p + 1) refl) (c .before .before .put-decimal .ensures .0),
+      omega (arith, c .before .before .put-decimal .ensures .1),
+    )
 
 pub put-word-spec : {M : Type 1} → statement M
 put-word-spec =

@@ -10,11 +10,18 @@ use Rattle.middle.proofs.inserting.insert_later.Statement.{statement}
 use Rattle.middle.proofs.inserting.insert_later.Tie as tie
 
 -- the slot of the new element
-slot : (c : tie.After-as-index) → c .as-index .result < length (now (c .before .before .before .before .before .before .before .before .args .slots))
+slot : (c : tie.After-as-index)
+    → c .as-index .result < length
+    (now (c .before .before .before .before .before .before .before .before .args .slots))
 slot c =
     let a = c .before .before .before .before .before .before .before .before .args in
     let p = c .before .before .before .before .before .before .before .before .pre in
-    omega (arith, c .as-index .ensures, c .before .before .before .before .before .before .wrap-add .ensures, place-low (length (now (a .slots))) (a .head .0) (p .0) (a .index) (omega arith))
+    omega (
+      arith,
+      c .as-index .ensures,
+      c .before .before .before .before .before .before .wrap-add .ensures,
+      place-low (length (now (a .slots))) (a .head .0) (p .0) (a .index) (omega arith),
+    )
 
 wrap-add-requires : tie.Need-wrap-add-requires
 wrap-add-requires c κs = search needs
@@ -36,8 +43,11 @@ wrap-copy-requires c κs =
     let s = low (a .index) (omega arith) in
     let d = low (a .index + 1) (omega arith) in
     let f = c .before .before .wrap-add .ensures in
-    let g = c .before .wrap-add2 .ensures in
-    (omega arith, overlap-next (length (now (a .slots))) (a .head .0) _ (p .0) (omega arith) (a .index) _ _ (omega arith) f g)
+    let g = c .before .wrap-add2 .ensures in (
+      omega arith,
+      overlap-next (length (now (a .slots))) (a .head .0) _ (p .0) (omega arith) (a .index) _ _
+          (omega arith) f g,
+    )
 
 as-index-requires : tie.Need-as-index-requires
 as-index-requires c κs = search needs
@@ -55,7 +65,10 @@ returns : tie.Need-returns
 returns c =
     let a = c .before .before .before .before .before .before .before .before .args in
     let p = c .before .before .before .before .before .before .before .before .pre in
-    later (now (a .slots)) _ _ _ _ (p .0) (p .1) (p .2) _ _ _ _ (c .before .before .before .before .before .before .wrap-add .ensures) (c .before .before .before .before .before .wrap-add2 .ensures) (c .as-index .ensures) (c .before .before .before .wrap-copy .ensures)
+    later (now (a .slots)) _ _ _ _ (p .0) (p .1) (p .2) _ _ _ _
+    (c .before .before .before .before .before .before .wrap-add .ensures)
+    (c .before .before .before .before .before .wrap-add2 .ensures) (c .as-index .ensures)
+    (c .before .before .before .wrap-copy .ensures)
 
 pub insert-later-spec : {M : Type 1} → statement M
 insert-later-spec =

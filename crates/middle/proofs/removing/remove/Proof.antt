@@ -14,18 +14,28 @@ use Rattle.middle.proofs.removing.remove.Statement.{statement}
 use Rattle.middle.proofs.removing.remove.Tie as tie
 
 -- past the first tests nothing is refused
-past : (c : tie.After-enum-told) → onChange (length (now (c .before .before .before .before .args .slots))) (recOf (c .before .before .before .before .args .q)) 0 ≡ 0
+past : (c : tie.After-enum-told)
+    → onChange (length (now (c .before .before .before .before .args .slots)))
+    (recOf (c .before .before .before .before .args .q)) 0 ≡ 0
 past c = passed-zero _ _ (c .before .before .check-change .ensures) (c .enum-told .given .1)
 
-ok : (c : tie.After-enum-told) → Fine (now (c .before .before .before .before .args .slots)) (recOf (c .before .before .before .before .args .q))
+ok : (c : tie.After-enum-told)
+    → Fine (now (c .before .before .before .before .args .slots)) (recOf (c .before .before .before .before .args .q))
 ok c = fine-change _ _ (past c)
 
 -- the slot of the element that is handed over
-slot : (c : tie.After-as-index) → c .as-index .result < length (now (c .before .before .before .before .before .before .before .before .args .slots))
+slot : (c : tie.After-as-index)
+    → c .as-index .result < length
+    (now (c .before .before .before .before .before .before .before .before .args .slots))
 slot c =
     let a = c .before .before .before .before .before .before .before .before .args in
     let g = ok (c .before .before .before .before) .good in
-    omega (arith, c .as-index .ensures, c .before .wrap-add .ensures, place-low (length (now (a .slots))) (a .q .head .0) (omega arith) (a .index) (omega arith))
+    omega (
+      arith,
+      c .as-index .ensures,
+      c .before .wrap-add .ensures,
+      place-low (length (now (a .slots))) (a .q .head .0) (omega arith) (a .index) (omega arith),
+    )
 
 check-change-requires : tie.Need-check-change-requires
 check-change-requires c κs = search needs
@@ -39,7 +49,8 @@ refused-requires c κs = search needs
 returns : tie.Need-returns
 returns c =
     rw (c .refused .ensures)
-    (told-first _ _ _ (c .before .before .before .before .check-change .ensures) _ _ (c .before .before .refusal .given .1))
+    (told-first _ _ _ (c .before .before .before .before .check-change .ensures) _ _
+    (c .before .before .refusal .given .1))
 
 enum-told : tie.Need-enum-told
 enum-told c = search needs
@@ -66,7 +77,8 @@ sub-later-2 : tie.Need-sub-later-2
 sub-later-2 c = search needs
 
 remove-later-requires : tie.Need-remove-later-requires
-remove-later-requires c κs = let g = ok (c .before .before .before .before .before .before .before) .good in let f = ok (c .before .before .before .before .before .before .before) .few in omega arith
+remove-later-requires c κs = let g = ok (c .before .before .before .before .before .before .before) .good in let f = ok
+    (c .before .before .before .before .before .before .before) .few in omega arith
 
 sub-stepped : tie.Need-sub-stepped
 sub-stepped c = search needs
@@ -78,13 +90,22 @@ same-length : tie.Need-same-length
 same-length c = search needs
 
 returns-3 : tie.Need-returns-3
-returns-3 c = removed-later _ _ (past (c .before .before .before .before .before .before .before .before .before .before .before)) _ _ _ (c .before .before .before .before .before .before .before .before .before .before .if1 .left) (c .before .before .before .before .before .before .before .as-index .ensures ∙ c .before .before .before .before .before .before .before .before .wrap-add .ensures) refl _ _ (c .before .before .before .before .before .if2 .taken) (c .stepped .ensures) (c .before .before .before .remove-later .ensures)
+returns-3 c = removed-later _ _
+    (past (c .before .before .before .before .before .before .before .before .before .before .before)) _ _ _
+    (c .before .before .before .before .before .before .before .before .before .before .if1 .left)
+    (c .before .before .before .before .before .before .before .as-index .ensures
+    ∙ c .before .before .before .before .before .before .before .before .wrap-add .ensures) refl _ _
+    (c .before .before .before .before .before .if2 .taken) (c .stepped .ensures)
+    (c .before .before .before .remove-later .ensures)
 
 wrap-add-requires-2 : tie.Need-wrap-add-requires-2
 wrap-add-requires-2 c κs = let g = ok (c .before .before .before .before .before .before) .good in omega arith
 
 remove-earlier-requires : tie.Need-remove-earlier-requires
-remove-earlier-requires c κs = let g = ok (c .before .before .before .before .before .before .before .before) .good in let f = ok (c .before .before .before .before .before .before .before .before) .few in (omega arith, c .before .wrap-add2 .ensures)
+remove-earlier-requires c κs =
+    let g = ok (c .before .before .before .before .before .before .before .before) .good in let f = ok
+    (c .before .before .before .before .before .before .before .before) .few
+    in (omega arith, c .before .wrap-add2 .ensures)
 
 sub-stepped-2 : tie.Need-sub-stepped-2
 sub-stepped-2 c = search needs
@@ -96,7 +117,14 @@ same-length-2 : tie.Need-same-length-2
 same-length-2 c = search needs
 
 returns-4 : tie.Need-returns-4
-returns-4 c = removed-earlier _ _ (past (c .before .before .before .before .before .before .before .before .before .before .before .before)) _ _ _ (c .before .before .before .before .before .before .before .before .before .before .before .if1 .left) (c .before .before .before .before .before .before .before .before .as-index .ensures ∙ c .before .before .before .before .before .before .before .before .before .wrap-add .ensures) refl _ _ _ (c .before .before .before .before .before .before .if2 .left) (c .before .before .before .before .before .wrap-add2 .ensures) (c .stepped2 .ensures) (c .before .before .before .remove-earlier .ensures)
+returns-4 c = removed-earlier _ _
+    (past (c .before .before .before .before .before .before .before .before .before .before .before .before)) _ _ _
+    (c .before .before .before .before .before .before .before .before .before .before .before .if1 .left)
+    (c .before .before .before .before .before .before .before .before .as-index .ensures
+    ∙ c .before .before .before .before .before .before .before .before .before .wrap-add .ensures) refl _ _ _
+    (c .before .before .before .before .before .before .if2 .left)
+    (c .before .before .before .before .before .wrap-add2 .ensures) (c .stepped2 .ensures)
+    (c .before .before .before .remove-earlier .ensures)
 
 pub remove-spec : {M : Type 1} → statement M
 remove-spec =

@@ -32,8 +32,11 @@ wrap-copy-requires c κs =
     let s = low (a .index + 1) (omega arith) in
     let d = low (a .index) (omega arith) in
     let f = c .before .before .wrap-add .ensures in
-    let g = c .before .wrap-add2 .ensures in
-    (omega arith, overlap-prior (length (now (a .slots))) (a .head .0) _ (p .0) (omega arith) (a .index) _ _ (omega arith) g f)
+    let g = c .before .wrap-add2 .ensures in (
+      omega arith,
+      overlap-prior (length (now (a .slots))) (a .head .0) _ (p .0) (omega arith) (a .index) _ _
+          (omega arith) g f,
+    )
 
 same-length : tie.Need-same-length
 same-length c = search needs
@@ -42,7 +45,9 @@ returns : tie.Need-returns
 returns c =
     let a = c .before .before .before .before .before .before .before .args in
     let p = c .before .before .before .before .before .before .before .pre in
-    later-closed (now (a .slots)) _ _ _ (p .0) (p .1) (p .2) _ _ _ (c .before .before .before .before .wrap-add2 .ensures) (c .before .before .before .before .before .wrap-add .ensures) (c .before .before .wrap-copy .ensures)
+    later-closed (now (a .slots)) _ _ _ (p .0) (p .1) (p .2) _ _ _
+    (c .before .before .before .before .wrap-add2 .ensures)
+    (c .before .before .before .before .before .wrap-add .ensures) (c .before .before .wrap-copy .ensures)
 
 pub remove-later-spec : {M : Type 1} → statement M
 remove-later-spec =

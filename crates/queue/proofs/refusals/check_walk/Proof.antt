@@ -9,7 +9,8 @@ use Rattle.queue.proofs.refusals.check_walk.Statement.{statement}
 use Rattle.queue.proofs.refusals.check_walk.Tie as tie
 
 -- past the first tests nothing is refused
-past : (c : tie.After-enum-told) → onQueue (c .before .before .before .args .cap) (recOf (c .before .before .before .args .w .queue)) 0 ≡ 0
+past : (c : tie.After-enum-told)
+    → onQueue (c .before .before .before .args .cap) (recOf (c .before .before .before .args .w .queue)) 0 ≡ 0
 past c = passed-zero _ _ (c .before .before .check .ensures) (c .enum-told .given .1)
 
 check-requires : tie.Need-check-requires
@@ -19,7 +20,8 @@ enum-known-refusal : tie.Need-enum-known-refusal
 enum-known-refusal c = search needs
 
 returns : tie.Need-returns
-returns c = first-stops _ _ _ (failed-number _ _ _ (c .before .before .before .check .ensures) (c .before .refusal .given .1))
+returns c = first-stops _ _ _ (failed-number _ _ _ (c .before .before .before .check .ensures)
+    (c .before .refusal .given .1))
 
 enum-told : tie.Need-enum-told
 enum-told c = search needs

@@ -5,7 +5,8 @@ use Rattle.queue.proofs.refusals.good_parts.Statement.{statement}
 use Rattle.queue.proofs.refusals.good_parts.Tie as tie
 
 returns : tie.Need-returns
-returns c = last-test _ _ (c .before .before .before .before .before .before .before .before .before .before .before .before .before .before .before .pre) (omega arith) (omega arith) (omega arith)
+returns c = last-test _ _ (c .before .before .before .before .before .before .before .before .before .before .before
+    .before .before .before .before .pre) (omega arith) (omega arith) (omega arith)
 
 returns-2 : tie.Need-returns-2
 returns-2 c = bad _ _ (λ g. omega arith)

@@ -7,7 +7,8 @@ use Rattle.replays.proofs.records.play.Statement.{statement}
 use Rattle.replays.proofs.records.play.Tie as tie
 
 abbrev Inv-loop : tie.InvT-loop
-Inv-loop bytes slots₀ out₀ played₀ counter₀ end slots out played counter = (counter ≤ end) × (length slots ≡ length slots₀) × (length out ≡ length out₀)
+Inv-loop bytes slots₀ out₀ played₀ counter₀ end slots out played counter =
+    (counter ≤ end) × (length slots ≡ length slots₀) × (length out ≡ length out₀)
 
 abbrev μ-loop : tie.MeasureT-loop
 μ-loop bytes slots₀ out₀ played₀ counter₀ end slots out played counter = end - counter

@@ -1,4 +1,5 @@
--- `replays::running::replay` is safe and ends, leaves no more of the limit than it had, and refuses a buffer that is too short. Assumes nothing.
+-- `replays::running::replay` is safe and ends, leaves no more of the limit
+-- than it had, and refuses a buffer that is too short. Assumes nothing.
 use native.Mathlib.Omega.{arith}
 use borrow.Author.Needs.{needs}
 use Rattle.replays.proofs.running.replay.Statement.{statement}
@@ -45,8 +46,12 @@ same-length-4 c = search needs
 
 returns-4 : tie.Need-returns-4
 returns-4 c =
-    let long-input = c .before .before .before .before .before .before .before .before .before .before .before .before .before .before .before .before .before .before .before .before .before .before .before .before .before .before .if1 .left in
-    let long-out = c .before .before .before .before .before .before .before .before .before .before .before .before .before .before .before .before .before .before .before .before .before .before .before .before .before .if2 .left in
+    let long-input = c .before .before .before .before .before .before .before .before .before .before .before .before
+    .before .before .before .before .before .before .before .before .before .before .before .before .before .before
+    .if1 .left in
+    let long-out = c .before .before .before .before .before .before .before .before .before .before .before .before
+    .before .before .before .before .before .before .before .before .before .before .before .before .before .if2
+    .left in
     (search needs, ((λ short. absurd (omega arith)), (λ short. absurd (omega arith))))
 
 same-length-5 : tie.Need-same-length-5

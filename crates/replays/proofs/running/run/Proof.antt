@@ -1,4 +1,5 @@
--- `replays::running::run` is safe and ends, and leaves no more of the limit than it had: what is left of it counts down. Assumes nothing.
+-- `replays::running::run` is safe and ends, and leaves no more of the
+-- limit than it had: what is left of it counts down. Assumes nothing.
 use Prim.Native.Nat.{_≤_}
 use mathlib.Core.Path.{_≡_}
 use lib.ListN.{length}
@@ -7,7 +8,9 @@ use Rattle.replays.proofs.running.run.Statement.{statement}
 use Rattle.replays.proofs.running.run.Tie as tie
 
 abbrev Inv-loop : tie.InvT-loop
-Inv-loop slots₀ input₀ out₀ limit queue₀ output₀ have₀ unread₀ slots input out queue output have unread = (have ≤ length input) × (unread ≤ limit) × (length input ≡ length input₀) × (length slots ≡ length slots₀) × (length out ≡ length out₀)
+Inv-loop slots₀ input₀ out₀ limit queue₀ output₀ have₀ unread₀ slots input out queue output have unread =
+    (have ≤ length input) × (unread ≤ limit) × (length input ≡ length input₀) × (length slots ≡ length slots₀)
+    × (length out ≡ length out₀)
 
 abbrev μ-loop : tie.MeasureT-loop
 μ-loop slots₀ input₀ out₀ limit queue₀ output₀ have₀ unread₀ slots input out queue output have unread = unread

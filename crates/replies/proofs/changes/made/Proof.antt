@@ -23,10 +23,12 @@ refuses-requires : tie.Need-refuses-requires
 refuses-requires c κs = search needs
 
 returns : tie.Need-returns
-returns c = arm-two (makeInC _) ofMade _ _ _ _ _ _ (c .done .ensures) (c .before .store-deque .ensures) refl (c .before .before .before .before .made .given .1)
+returns c = arm-two (makeInC _) ofMade _ _ _ _ _ _ (c .done .ensures) (c .before .store-deque .ensures) refl
+    (c .before .before .before .before .made .given .1)
 
 returns-2 : tie.Need-returns-2
-returns-2 c = arm-two (makeInC _) ofMade _ _ _ _ _ _ (c .refuses .ensures) refl refl (c .before .before .made2 .given .1)
+returns-2 c = arm-two (makeInC _) ofMade _ _ _ _ _ _ (c .refuses .ensures) refl refl
+    (c .before .before .made2 .given .1)
 
 pub made-spec : {M : Type 1} → statement M
 made-spec =

@@ -32,7 +32,8 @@ returns-3 : tie.Need-returns-3
 returns-3 c = arm orderInC ofOrdering _ _ (c .enum-told3 .given .1)
 
 returns-4 : tie.Need-returns-4
-returns-4 c = arm-refused orderInC ofOrdering _ _ _ _ _ (c .number-of .ensures) refl (c .before .before .ordering .given .1)
+returns-4 c = arm-refused orderInC ofOrdering _ _ _ _ _ (c .number-of .ensures) refl
+    (c .before .before .ordering .given .1)
 
 pub of-ordering-spec : {M : Type 1} → statement M
 of-ordering-spec =

@@ -20,7 +20,8 @@ returns : tie.Need-returns
 returns c = arm countInC ofWritten _ _ (c .before .written .given .1)
 
 returns-2 : tie.Need-returns-2
-returns-2 c = arm-refused countInC ofWritten _ _ _ _ _ (c .number-of .ensures) refl (c .before .before .written2 .given .1)
+returns-2 c = arm-refused countInC ofWritten _ _ _ _ _ (c .number-of .ensures) refl
+    (c .before .before .written2 .given .1)
 
 pub of-written-spec : {M : Type 1} → statement M
 of-written-spec =

@@ -20,10 +20,12 @@ number-of-requires : tie.Need-number-of-requires
 number-of-requires c κs = search needs
 
 returns : tie.Need-returns
-returns c = arm-two (runsInC _) ofRanges _ _ _ _ _ _ refl (c .store-runs .ensures) refl (c .before .before .before .ranges .given .1)
+returns c = arm-two (runsInC _) ofRanges _ _ _ _ _ _ refl (c .store-runs .ensures) refl
+    (c .before .before .before .ranges .given .1)
 
 returns-2 : tie.Need-returns-2
-returns-2 c = arm-two (runsInC _) ofRanges _ _ _ _ _ _ (c .number-of .ensures) refl refl (c .before .before .ranges2 .given .1)
+returns-2 c = arm-two (runsInC _) ofRanges _ _ _ _ _ _ (c .number-of .ensures) refl refl
+    (c .before .before .ranges2 .given .1)
 
 pub ranged-spec : {M : Type 1} → statement M
 ranged-spec =

@@ -41,13 +41,23 @@ loop-less : tie.Need-loop-less Inv-loop μ-loop
 loop-less c = omega arith
 
 loop-again : tie.Need-loop-again Inv-loop μ-loop
-loop-again c = (omega arith, omega arith, goes-up _ _ _ _ (c .before .before .before .if1 .left) (sym (c .before .meets .ensures) ∙ c .if2 .taken) (c .before .before .before .before .loop .inv .2))
+loop-again c = (
+  omega arith,
+  omega arith,
+  goes-up _ _ _ _ (c .before .before .before .if1 .left) (sym (c .before .meets .ensures) ∙ c .if2 .taken)
+      (c .before .before .before .before .loop .inv .2),
+)
 
 loop-less-2 : tie.Need-loop-less-2 Inv-loop μ-loop
 loop-less-2 c = omega arith
 
 loop-again-2 : tie.Need-loop-again-2 Inv-loop μ-loop
-loop-again-2 c = (omega arith, omega arith, goes-down _ _ _ _ (c .before .before .before .if1 .left) (sym (c .before .meets .ensures) ∙ c .if2 .left) (c .before .before .before .before .loop .inv .2))
+loop-again-2 c = (
+  omega arith,
+  omega arith,
+  goes-down _ _ _ _ (c .before .before .before .if1 .left) (sym (c .before .meets .ensures) ∙ c .if2 .left)
+      (c .before .before .before .before .loop .inv .2),
+)
 
 returns : tie.Need-returns Inv-loop μ-loop
 returns c = (omega arith, ended _ _ _ _ (c .if1 .taken) (c .before .loop .inv .2))

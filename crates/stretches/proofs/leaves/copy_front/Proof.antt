@@ -45,7 +45,8 @@ same-length : tie.Need-same-length Inv-loop μ-loop
 same-length c = search needs
 
 returns : tie.Need-returns Inv-loop μ-loop
-returns c = all (now (c .before .before .args .src)) (now (c .before .before .args .dst)) _ _ (c .before .loop .inv) (search needs)
+returns c = all (now (c .before .before .args .src)) (now (c .before .before .args .dst)) _ _ (c .before .loop .inv)
+    (search needs)
 
 pub copy-front-spec : {M : Type 1} → statement M
 copy-front-spec =

@@ -32,7 +32,10 @@ same-length c = search needs
 returns : tie.Need-returns
 returns c =
     let st = c .before .before .before .before .before .before .before .before .before .before .before in
-    c .before .before .copy-front2 .ensures ∙ ap (lay (now (st .args .dst)) 0) (held _ _ _ (now (st .args .src)) _ (c .before .before .before .before .before .before .before .copy-front .ensures) refl refl (omega arith))
+    c .before .before .copy-front2 .ensures
+    ∙ ap (lay (now (st .args .dst)) 0)
+    (held _ _ _ (now (st .args .src)) _
+    (c .before .before .before .before .before .before .before .copy-front .ensures) refl refl (omega arith))
 
 pub copy-in-spec : {M : Type 1} → statement M
 copy-in-spec =

@@ -1,4 +1,5 @@
--- `stretches::leaves::copy_in_reversed` meets its contract. The invariant: the last i elements are copied. Assumes nothing.
+-- `stretches::leaves::copy_in_reversed` meets its contract. The
+-- invariant: the last i elements are copied. Assumes nothing.
 use mathlib.Core.List.{reverse}
 use Prim.Native.Nat.{_-_}
 use native.Mathlib.Omega.{arith}
@@ -47,13 +48,16 @@ loop-again c =
     let a = c .before .before .before .args in
     let l = c .before .before .loop in
     let many = length-reverse (now (a .src)) in
-    next (reverse (now (a .src))) (now (a .dst)) (omega arith) (l .dst) (l .i) _ (l .inv) (omega arith) (getD-reverse (now (a .src)) (l .i) _ (omega arith))
+    next (reverse (now (a .src))) (now (a .dst)) (omega arith) (l .dst) (l .i) _ (l .inv) (omega arith)
+    (getD-reverse (now (a .src)) (l .i) _ (omega arith))
 
 same-length : tie.Need-same-length Inv-loop μ-loop
 same-length c = search needs
 
 returns : tie.Need-returns Inv-loop μ-loop
-returns c = let many = length-reverse (now (c .before .before .args .src)) in all (reverse (now (c .before .before .args .src))) (now (c .before .before .args .dst)) _ _ (c .before .loop .inv) (omega arith)
+returns c = let many = length-reverse (now (c .before .before .args .src)) in all
+    (reverse (now (c .before .before .args .src))) (now (c .before .before .args .dst)) _ _ (c .before .loop .inv)
+    (omega arith)
 
 pub copy-in-reversed-spec : {M : Type 1} → statement M
 copy-in-reversed-spec =

@@ -35,13 +35,15 @@ loop-again c =
     let a = c .before .before .args in
     let l = c .before .loop in
     let many = length-replicate (a .n) (a .v) in
-    next (replicate (a .n) (a .v)) (now (a .dst)) (omega arith) (l .dst) (l .i) (a .v) (l .inv) (omega arith) (sym (getD-replicate (a .n) (l .i) (a .v) 0 (omega arith)))
+    next (replicate (a .n) (a .v)) (now (a .dst)) (omega arith) (l .dst) (l .i) (a .v) (l .inv) (omega arith)
+    (sym (getD-replicate (a .n) (l .i) (a .v) 0 (omega arith)))
 
 same-length : tie.Need-same-length Inv-loop μ-loop
 same-length c = search needs
 
 returns : tie.Need-returns Inv-loop μ-loop
-returns c = let many = length-replicate (c .before .before .args .n) (c .before .before .args .v) in all _ (now (c .before .before .args .dst)) _ _ (c .before .loop .inv) (omega arith)
+returns c = let many = length-replicate (c .before .before .args .n) (c .before .before .args .v) in all _
+    (now (c .before .before .args .dst)) _ _ (c .before .loop .inv) (omega arith)
 
 pub fill-spec : {M : Type 1} → statement M
 fill-spec =

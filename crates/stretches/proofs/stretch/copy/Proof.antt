@@ -64,11 +64,15 @@ same-length c = search needs
 
 returns : tie.Need-returns
 returns c =
-    let st = c .before .before .before .before .before .before .before .before .before .before .before .before .before .before in
+    let st = c .before .before .before .before .before .before .before .before .before .before .before .before .before
+    .before in
     let b = now (st .args .slots) in
-    let s = c .before .before .before .before .before .before .before .before .before .before .before .before .as-index in
+    let s = c .before .before .before .before .before .before .before .before .before .before .before .before .as-index
+    in
     let d = c .before .before .before .before .before .before .before .before .before .before .before .as-index2 in
-    held-back _ b _ _ _ (s .result) (d .result) (st .args .len) (omega arith) (c .before .before .before .before .before .before .before .copy-front .ensures) refl (omega arith) (c .before .before .copy-front2 .ensures)
+    held-back _ b _ _ _ (s .result) (d .result) (st .args .len) (omega arith)
+    (c .before .before .before .before .before .before .before .copy-front .ensures) refl (omega arith)
+    (c .before .before .copy-front2 .ensures)
     ∙ (λ t. copied b (s .ensures t) (d .ensures t) (st .args .len))
 
 pub copy-spec : {M : Type 1} → statement M

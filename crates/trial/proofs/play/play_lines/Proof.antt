@@ -7,7 +7,9 @@ use Rattle.trial.proofs.play.play_lines.Statement.{statement}
 use Rattle.trial.proofs.play.play_lines.Tie as tie
 
 abbrev Inv-loop : tie.InvT-loop
-Inv-loop buf₀ a-slots₀ b-slots₀ out₀ now₀ number₀ buf a-slots b-slots out now number = (length buf ≡ length buf₀) × (length a-slots ≡ length a-slots₀) × (length b-slots ≡ length b-slots₀) × (length out ≡ length out₀)
+Inv-loop buf₀ a-slots₀ b-slots₀ out₀ now₀ number₀ buf a-slots b-slots out now number =
+    (length buf ≡ length buf₀) × (length a-slots ≡ length a-slots₀) × (length b-slots ≡ length b-slots₀)
+    × (length out ≡ length out₀)
 
 abbrev μ-loop : tie.MeasureT-loop
 μ-loop buf₀ a-slots₀ b-slots₀ out₀ now₀ number₀ buf a-slots b-slots out now number = 18446744073709551615 - number
@@ -29,8 +31,10 @@ loop-less c = search needs
 
 loop-again : tie.Need-loop-again Inv-loop μ-loop
 loop-again c =
-    let k = c .before .before .before .before .before .before .before .before .before .before .before .play-next .kept in
-    let i = c .before .before .before .before .before .before .before .before .before .before .before .before .before .before .before .before .before .loop .inv in
+    let k = c .before .before .before .before .before .before .before .before .before .before .before .play-next .kept
+    in
+    let i = c .before .before .before .before .before .before .before .before .before .before .before .before .before
+    .before .before .before .before .loop .inv in
     (k .0 ∙ i .0, k .1 .0 ∙ i .1, k .1 .1 .0 ∙ i .2, k .1 .1 .1 .0 ∙ i .3)
 
 enum-told : tie.Need-enum-told Inv-loop μ-loop

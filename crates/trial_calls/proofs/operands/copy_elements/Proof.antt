@@ -7,7 +7,8 @@ use Rattle.trial_calls.proofs.operands.copy_elements.Statement.{stateme
 use Rattle.trial_calls.proofs.operands.copy_elements.Tie as tie
 
 abbrev Inv-loop : tie.InvT-loop
-Inv-loop words values₀ i₀ i-end values i = (i ≤ length words) × (i-end ≡ length words) × (length values ≡ length values₀)
+Inv-loop words values₀ i₀ i-end values i =
+    (i ≤ length words) × (i-end ≡ length words) × (length values ≡ length values₀)
 
 abbrev μ-loop : tie.MeasureT-loop
 μ-loop words values₀ i₀ i-end values i = length words - i

@@ -7,7 +7,8 @@ use Rattle.trial_calls.proofs.sets.fill.Statement.{statement}
 use Rattle.trial_calls.proofs.sets.fill.Tie as tie
 
 abbrev Inv-loop : tie.InvT-loop
-Inv-loop slots₀ first value₀ i₀ i-end slots value i = (i ≤ length slots₀) × (i-end ≡ length slots₀) × (length slots ≡ length slots₀)
+Inv-loop slots₀ first value₀ i₀ i-end slots value i =
+    (i ≤ length slots₀) × (i-end ≡ length slots₀) × (length slots ≡ length slots₀)
 
 abbrev μ-loop : tie.MeasureT-loop
 μ-loop slots₀ first value₀ i₀ i-end slots value i = length slots₀ - i

@@ -11,7 +11,8 @@ use Rattle.trial_text.proofs.writing.put_spaced.Reads as put-spaced-rea
 use Rattle.trial_text.proofs.writing.wide.Reads as wide-reads
 
 abbrev Inv-loop : tie.InvT-loop
-Inv-loop out₀ at slots now₀ i₀ i-end out now i = (i ≤ length slots) × (i-end ≡ length slots) × (length out ≡ length out₀)
+Inv-loop out₀ at slots now₀ i₀ i-end out now i =
+    (i ≤ length slots) × (i-end ≡ length slots) × (length out ≡ length out₀)
 
 abbrev μ-loop : tie.MeasureT-loop
 μ-loop out₀ at slots now₀ i₀ i-end out now i = length slots - i

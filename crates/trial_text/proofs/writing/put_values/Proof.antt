@@ -11,7 +11,8 @@ use Rattle.trial_text.proofs.writing.put_spaced.Reads as put-spaced-rea
 use Rattle.trial_text.proofs.writing.wide_byte.Reads as wide-byte-reads
 
 abbrev Inv-loop : tie.InvT-loop
-Inv-loop out₀ at bytes now₀ i₀ i-end out now i = (i ≤ length bytes) × (i-end ≡ length bytes) × (length out ≡ length out₀)
+Inv-loop out₀ at bytes now₀ i₀ i-end out now i =
+    (i ≤ length bytes) × (i-end ≡ length bytes) × (length out ≡ length out₀)
 
 abbrev μ-loop : tie.MeasureT-loop
 μ-loop out₀ at bytes now₀ i₀ i-end out now i = length bytes - i

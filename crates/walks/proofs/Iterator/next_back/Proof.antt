@@ -17,4 +17,5 @@ next-back-spec 𝓤 H 𝓜 𝓖 𝓡 =
     entered 𝓤 H (tripleOf 𝓤 H (𝓖 .A) next_back.signature (next_back.spec 𝓤 H (𝓖 .A) (𝓜 .mem) (𝓡 .run)))
     (tables 𝓤 H 𝓜 𝓡 code.env .C) (tables 𝓤 H 𝓜 𝓡 code.env .Λ) name code.function (code.unfolded 𝓤 H 𝓜 𝓡)
     (step-meets 𝓤 H (𝓖 .A) (givenOf 𝓤 H 𝓜 𝓖) nextBackStep called.name (tablesOf 𝓤 H 𝓜 (tables 𝓤 H 𝓜 𝓡 code.env))
-    (cited 𝓤 H (StepOf 𝓤 nextBackStep H (𝓖 .A)) 𝓜 𝓡 code.env called.name called.routine code.calls-walks·walk-next-back (known.met 𝓤 H 𝓜 𝓖 𝓡)))
+    (cited 𝓤 H (StepOf 𝓤 nextBackStep H (𝓖 .A)) 𝓜 𝓡 code.env called.name called.routine code.calls-walks·walk-next-back
+    (known.met 𝓤 H 𝓜 𝓖 𝓡)))
