@@ -9,14 +9,14 @@ use Rattle.rules.specs.Pairs.{PairAnswer}
 use Rattle.rules.specs.Sequences.{StepAnswer, madeOr}
 use Rattle.answers.specs.Sights.{ofSight}
 use Rattle.answers.specs.declared.singles.Answer.{Answer as Answered}
-use Rattle.answers.specs.declared.pairs.StepAnswer.{StepAnswer}
+use Rattle.answers.specs.declared.pairs.StepAnswer.{StepAnswer as StepAnswered}
 
 -- of a call on one queue: refusal number, moved count, record and what was handed over
 abbrev pub ofAnswer : Answered → Answer
 ofAnswer p = record { refused = p .refused; moved = p .moved; state = stateOf (p .state); handed = ofGiven (p .handed) }
 
 -- of a call on either of two: the same, with what was seen and both records
-abbrev pub ofStepAnswer : StepAnswer → StepAnswer
+abbrev pub ofStepAnswer : StepAnswered → StepAnswer
 ofStepAnswer p = record {
   refused = p .refused;
   moved = p .moved;

@@ -37,7 +37,7 @@ pub fn of_opened(opened: Opened) -> Answer
 
 // The answer of a drain's `next` and `next_back`.
 pub fn of_drawn(drawn: Drawn) -> Answer
-    ensures { λ r. ⌜ ofAnswer r ≡ ofDrawn draining ⌝ }
+    ensures { λ r. ⌜ ofAnswer r ≡ ofDrawn drawn ⌝ }
 {
     match drawn {
         Drawn::Number {

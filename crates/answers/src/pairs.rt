@@ -6,7 +6,7 @@ use queue::Joined;
 use queue::Split;
 use queue::State;
 ghost use mathlib.Core.Path.{_≡_};
-ghost use Rattle.rules.specs.Outcome.{State};
+ghost use Rattle.rules.specs.Outcome.{State as Kept};
 ghost use Rattle.queue.specs.Drains.{stateOf};
 ghost use Rattle.queue.specs.Pairs.{ofJoined, ofSplit};
 ghost use Rattle.answers.specs.Answers.{bothAnswered, ofStepAnswer};
@@ -24,7 +24,7 @@ pub struct StepAnswer {
 
 // The answer of `append`.
 pub fn of_joined(joined: Joined) -> StepAnswer
-    ensures { λ r. ⌜ ((h : State) → ofStepAnswer r ≡ bothAnswered h (ofJoined joined)) ⌝ }
+    ensures { λ r. ⌜ ((h : Kept) → ofStepAnswer r ≡ bothAnswered h (ofJoined joined)) ⌝ }
 {
     match joined {
         Joined::Done {

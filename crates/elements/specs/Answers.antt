@@ -31,9 +31,9 @@ ofHanded (handed.Refused x q m) = answer (numberOf x) m q none
 -- of `next` and `next_back`: what is handed over and the drain's
 -- record after; Nothing, or a refusal number, and the same
 abbrev pub ofDrawn : Drawn → Answer
-ofDrawn (draining.Number v d m) = drawing 0 m d (some v)
-ofDrawn (draining.Nothing d m) = drawing 0 m d none
-ofDrawn (draining.Refused x d m) = drawing (numberOf x) m d none
+ofDrawn (drawn.Number v d m) = drawing 0 m d (some v)
+ofDrawn (drawn.Nothing d m) = drawing 0 m d none
+ofDrawn (drawn.Refused x d m) = drawing (numberOf x) m d none
 
 -- what a look saw, or its refusal number
 abbrev pub ofFound : Found → Look (Option ℕ)

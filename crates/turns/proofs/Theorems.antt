@@ -10,10 +10,10 @@ use Rattle.rules.specs.Standing.{standingSlots}
 use Rattle.answers.specs.Answers.{ofStepAnswer}
 use Rattle.turn_calls.specs.Calls.{turnOf}
 use Rattle.turns.specs.Played.{Played, over, played, leftBy}
-use Rattle.answers.specs.declared.pairs.StepAnswer.{StepAnswer}
+use Rattle.answers.specs.declared.pairs.StepAnswer.{StepAnswer as StepAnswered}
 
 -- what the contract tells of the queues
-queues-left : (c : CallStep) (r : StepAnswer) (x y : List ℕ) → (ofStepAnswer r, x, y) ≡ toldStep c
+queues-left : (c : CallStep) (r : StepAnswered) (x y : List ℕ) → (ofStepAnswer r, x, y) ≡ toldStep c
     → leftBy r x y ≡ c .queues
 queues-left c r x y e = ap (λ (t : StepAnswer × List ℕ × List ℕ). pairOf (queueOf (t .1) (t .0 .a))
     (queueOf (t .2) (t .0 .b))) e
