@@ -1,14 +1,14 @@
 /* Scorebucket: a double-ended queue of uint32_t in slots that the caller lends.
  *
- * Link with the archive that `sh tools/native.sh . exports` makes. Every function is proved to do what the queue's rules
- * say (the src folders of crates/exports, exports_joins and exports_looks hold the contracts), for any record and any
+ * Link with the archive that `sh tools/native.sh . exports` makes. Every function is proved to do what the queue's
+ * rules say (the src folders of crates/exports, exports_joins and exports_looks hold the contracts), for any record and any
  * numbers: a record that is not good, a position past the end or a queue without room is refused, and never read or
  * written past the slots.
  *
  * Memory: the slots are the caller's, and so is every other pointer. Nothing is allocated, freed or kept: a call uses its pointers until it returns.
  * The number of slots is the capacity, at most 16,000. A queue is its slots and a small record {head, len}: every call
- * takes the record's address, and a call that changes the queue changes it there. Calls on different slots and records may
- * run at the same time.
+ * takes the record's address, and a call that changes the queue changes it there. Calls on different slots and records
+ * may run at the same time.
  *
  * What a caller must see to, since no call can test it:
  *   - a pointer is not null (with length 0 it may point anywhere else), aligned for what it points to, and its length is no more than what stands there;
