@@ -12,7 +12,6 @@ ghost use Rattle.queue.specs.Drains.{drainOf};
 ghost use Rattle.queue.specs.Looks.{walkOf};
 
 // Element i stands `i` places on from `head`.
-#[repr(C)]
 pub struct Deque {
     pub head: WrappedIndex,
     pub len: usize,
