@@ -31,7 +31,7 @@ pub fn move_elements(slots: &mut [u32], head: WrappedIndex, from: usize, to: usi
 
 // The side of a hole that moves: `n` elements, which stand from
 // `src` on and go to `dst`; then the queue begins at `head`.
-struct Side {
+struct Shorter {
     src: WrappedIndex,
     dst: WrappedIndex,
     n: usize,
@@ -48,7 +48,7 @@ fn shorter_side(
     new: usize,
     hole: usize,
     tail: usize,
-) -> Side
+) -> Shorter
     requires { ⌜ (head .0 < cap) × (start + new + hole + tail ≤ cap) × (cap ≤ mostSlots) ⌝ }
     ensures { λ r. ⌜ SideMoves cap (head .0) start new hole tail (r .src .0) (r .dst .0) (r .n) (r .head .0) ⌝ }
 {
@@ -60,7 +60,7 @@ fn shorter_side(
         //             H
         // [ . . . . . h h n t t t t . . ]
         let next = places::wrap_add(cap, head, hole);
-        return Side {
+        return Shorter {
             src: head,
             dst: next,
             n: start,
@@ -72,7 +72,7 @@ fn shorter_side(
     // [ . . h h h n d d d t t . . . ]
     //       H
     // [ . . h h h n t t . . . . . . ]
-    Side {
+    Shorter {
         src: places::wrap_add(cap, head, before + hole),
         dst: places::wrap_add(cap, head, before),
         n: tail,

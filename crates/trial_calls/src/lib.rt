@@ -15,8 +15,8 @@ use operands::side_of;
 pub use sets::fill;
 use sets::plant;
 use sets::set;
-use state::Asked;
 pub use state::Called;
+use state::CalledOne;
 pub use state::Kept;
 pub use state::Queues;
 pub use state::Walking;
@@ -55,16 +55,16 @@ fn doing_of(number: usize) -> Doing {
 }
 
 // Makes a call on one queue that changes no slot, and puts what it gave.
-fn ask_one(line: &[usize], slots: &[u32], kept: Kept, out: &mut [u8], at: usize) -> Asked {
+fn ask_one(line: &[usize], slots: &[u32], kept: Kept, out: &mut [u8], at: usize) -> CalledOne {
     let number = call_number(line);
     let words = operands(line);
     match doing_of(number) {
         Doing::Walk => walk(number, slots, kept, out, at),
-        Doing::Set => Asked {
+        Doing::Set => CalledOne {
             kept: set(number, words, kept),
             at: put_done(out, at),
         },
-        _ => Asked {
+        _ => CalledOne {
             kept,
             at: look_at(number, words, slots, kept, out, at),
         },

@@ -92,7 +92,7 @@ pub struct Called {
 }
 
 // After a call on one queue that changes no slot: the same of that queue.
-pub struct Asked {
+pub struct CalledOne {
     pub kept: Kept,
     pub at: usize,
 }

@@ -1,5 +1,5 @@
 // The walks.
-use crate::state::Asked;
+use crate::state::CalledOne;
 use crate::state::Kept;
 use crate::state::Walking;
 use trial_text::call;
@@ -12,19 +12,19 @@ use vec_deque::Stepped;
 use vec_deque::Walk;
 
 // The beginning of a walk; while a drain is open it is passed over.
-fn begin(slots: &[u32], kept: Kept, out: &mut [u8], at: usize) -> Asked {
+fn begin(slots: &[u32], kept: Kept, out: &mut [u8], at: usize) -> CalledOne {
     if kept.is_open() {
-        return Asked {
+        return CalledOne {
             kept,
             at: put_done(out, at),
         };
     }
     match vec_deque::begin_walk(slots, kept.queue()) {
-        Begun::Walk(walk) => Asked {
+        Begun::Walk(walk) => CalledOne {
             kept: kept.with_walk(walk),
             at: put_done(out, at),
         },
-        Begun::Refused(refusal) => Asked {
+        Begun::Refused(refusal) => CalledOne {
             kept,
             at: put_refused(out, at, refusal),
         },
@@ -49,17 +49,17 @@ fn walk_behind(stepped: Stepped) -> Walk {
 }
 
 // The steps of the queue's walk. Without one they find nothing.
-fn walk_on(number: usize, slots: &[u32], kept: Kept, out: &mut [u8], at: usize) -> Asked {
+fn walk_on(number: usize, slots: &[u32], kept: Kept, out: &mut [u8], at: usize) -> CalledOne {
     let walk = kept.walk;
     match walk {
         Walking::Begun(begun) => {
             let stepped = step(number, slots, begun);
-            Asked {
+            CalledOne {
                 kept: kept.with_walk(walk_behind(stepped)),
                 at: put_stepped(out, at, stepped),
             }
         }
-        Walking::Still => Asked {
+        Walking::Still => CalledOne {
             kept,
             at: put_none(out, at),
         },
@@ -67,7 +67,7 @@ fn walk_on(number: usize, slots: &[u32], kept: Kept, out: &mut [u8], at: usize) 
 }
 
 // Begins a walk, or makes a step of it.
-pub fn walk(number: usize, slots: &[u32], kept: Kept, out: &mut [u8], at: usize) -> Asked {
+pub fn walk(number: usize, slots: &[u32], kept: Kept, out: &mut [u8], at: usize) -> CalledOne {
     match number {
         call::WALK_BEGIN => begin(slots, kept, out, at),
         _ => walk_on(number, slots, kept, out, at),

@@ -46,7 +46,7 @@ use denote.Triple.Clauses.{Clauses, ensured, lasts, closing}
 use denote.Exit.{yes}
 use Rattle.rules.specs.Walks.{Walk as RuledWalk, WalkStep as RuledStep}
 use Rattle.elements.specs.Answers.{ofStepped}
-use Rattle.walks.specs.Lent.{walkIn}
+use Rattle.walks.specs.Lent.{iteratorWalk}
 use Rattle.queue.specs.Looks.{walkOf as ruled}
 use Rattle.queue.specs.declared.records.Walk.{Walk}
 use Rattle.elements.specs.declared.answers.Stepped.{Stepped}
@@ -119,7 +119,7 @@ module _ {M : Type 1} (𝓤 : URA M) (what : List ℕ → RuledWalk → RuledSte
     ghost = Unit {0};
     requires = λ g. emp 𝓤;
     ensures = λ g r e. fact 𝓤 ((r .slots ≡ a .0 .slots)
-        × (ofStepped (r .step) ≡ what (now (a .0 .slots)) (walkIn (a .0))));
+        × (ofStepped (r .step) ≡ what (now (a .0 .slots)) (iteratorWalk (a .0))));
   }
 
   module _ (H : Heap 𝓤) (A : Atoms 𝓤) where
@@ -143,7 +143,7 @@ module _ {M : Type 1} (𝓤 : URA M) (H : Heap 𝓤) (A : Atoms 𝓤) (W : Given
   w = record { queue = d .queue; low = d .low; high = d .high }
 
   abbrev found : Stepped → Type 0
-  found r = ofStepped r ≡ what (now (d .slots)) (walkIn d)
+  found r = ofStepped r ≡ what (now (d .slots)) (iteratorWalk d)
 
   abbrev Post : Val → SProp 𝓤
   Post = walkOf 𝓤 H A next.ended stayed (clauses 𝓤 what) .post (((κ, tt), (q, tt), tt, (d, tt), (mach ∷ [], tt)), tt)

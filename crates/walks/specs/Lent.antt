@@ -4,5 +4,5 @@ use Rattle.rules.specs.Walks.{Walk}
 use Rattle.walks.specs.declared.Iterator.{Iterator}
 
 -- the walk that the rules speak of
-abbrev pub walkIn : Iterator → Walk
-walkIn i = record { rec = recOf (i .queue); low = i .low; high = i .high }
+abbrev pub iteratorWalk : Iterator → Walk
+iteratorWalk i = record { rec = recOf (i .queue); low = i .low; high = i .high }

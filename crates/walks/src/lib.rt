@@ -12,7 +12,7 @@ ghost use Rattle.rules.specs.Walks.{wholeWalk, beginWalk, nextStep, nextBackSte
 ghost use Rattle.queue.specs.Answers.{recOf};
 ghost use Rattle.queue.specs.Looks.{walkOf, ofBegun};
 ghost use Rattle.elements.specs.Answers.{ofStepped};
-ghost use Rattle.walks.specs.Lent.{walkIn};
+ghost use Rattle.walks.specs.Lent.{iteratorWalk};
 
 // A walk over the whole list.
 pub fn begin_walk(slots: &[u32], q: Deque) -> Begun
@@ -99,7 +99,7 @@ pub struct IteratorStep<'a> {
 
 // A borrowing walk over the whole list.
 pub fn iter<'a>(slots: &'a [u32], q: Deque) -> Iterator<'a>
-    ensures { λ r. ⌜ (r .slots ≡ slots .entry) × (walkIn r ≡ wholeWalk (recOf q)) ⌝ }
+    ensures { λ r. ⌜ (r .slots ≡ slots .entry) × (iteratorWalk r ≡ wholeWalk (recOf q)) ⌝ }
 {
     let w = whole_walk(q);
     Iterator {
@@ -115,7 +115,7 @@ impl<'a> Iterator<'a> {
     pub fn next(self) -> IteratorStep<'a>
         ensures { λ r.
             ⌜ (r .slots ≡ self .entry .slots)
-            × (ofStepped (r .step) ≡ nextStep (now (self .entry .slots)) (walkIn (self .entry))) ⌝ }
+            × (ofStepped (r .step) ≡ nextStep (now (self .entry .slots)) (iteratorWalk (self .entry))) ⌝ }
     {
         let w = Walk {
             queue: self.queue,
@@ -132,7 +132,7 @@ impl<'a> Iterator<'a> {
     pub fn next_back(self) -> IteratorStep<'a>
         ensures { λ r.
             ⌜ (r .slots ≡ self .entry .slots)
-            × (ofStepped (r .step) ≡ nextBackStep (now (self .entry .slots)) (walkIn (self .entry))) ⌝ }
+            × (ofStepped (r .step) ≡ nextBackStep (now (self .entry .slots)) (iteratorWalk (self .entry))) ⌝ }
     {
         let w = Walk {
             queue: self.queue,
@@ -149,7 +149,7 @@ impl<'a> Iterator<'a> {
 impl<'a> IteratorStep<'a> {
     // The walk after the step.
     pub fn rest(self) -> Iterator<'a>
-        ensures { λ r. ⌜ (r .slots ≡ self .entry .slots) × (walkIn r ≡ ofStepped (self .entry .step) .walk) ⌝ }
+        ensures { λ r. ⌜ (r .slots ≡ self .entry .slots) × (iteratorWalk r ≡ ofStepped (self .entry .step) .walk) ⌝ }
     {
         let w = walk_after(self.step);
         Iterator {
