@@ -36,10 +36,13 @@ someLength n = eqb n 2 || (eqb n 6 || eqb n 10)
 unfoldable pub entryOf : ℕ → ℕ → ℕ → Entry
 entryOf o x y =
     whether (eqb o 1) (doPushBack x)
-    (whether (eqb o 2) (doPushFront x) (whether (eqb o 3) doPopFront (whether (eqb o 4) doPopBack
+    (whether (eqb o 2) (doPushFront x)
+    (whether (eqb o 3) doPopFront
+    (whether (eqb o 4) doPopBack
     (whether (eqb o 5) (doDrain x y)
     (whether (eqb o 6) (doTruncate x)
-    (whether (eqb o 7) (doTruncateFront x) (whether (eqb o 8) (doInsert x y) (doRemove x))))))))
+    (whether (eqb o 7) (doTruncateFront x)
+    (whether (eqb o 8) (doInsert x y) (doRemove x))))))))
 
 -- what stands at a position of the bytes: an operation, and the position behind
 -- its record; a broken record; one cut short, so that more bytes may help; the end

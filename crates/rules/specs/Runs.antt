@@ -25,8 +25,8 @@ fromTo a e = record { a = a; e = e }
 abbrev pub twoRuns : Span → Span → TwoRuns
 twoRuns f k = record { front = f; back = k }
 
--- empty: 0..0 and 0..0, wherever head is. Otherwise w is the place of start: if cap
--- - w >= end - start, then w..w+(end-start) and 0..0; else w..cap and 0..the rest
+-- empty: 0..0 and 0..0, wherever head is. Otherwise w is the place of start:
+-- if cap - w >= end - start, then w..w+(end-start) and 0..0; else w..cap and 0..the rest
 unfoldable pub runs : ℕ → ℕ → ℕ → ℕ → TwoRuns
 runs cap head s e =
     let w = place cap head s in
