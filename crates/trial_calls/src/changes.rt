@@ -1,15 +1,15 @@
 // The calls that can change a queue: the words of a line become a call of `turns`, and what it leaves goes out.
-use crate::operands::call_number;
-use crate::operands::copy_bytes;
-use crate::operands::copy_elements;
-use crate::operands::element;
-use crate::operands::operands;
-use crate::operands::side_of;
-use crate::operands::test_of;
-use crate::state::Called;
-use crate::state::Queues;
 use answers::StepAnswer;
 use elements::Given;
+use trial_looks::operands::call_number;
+use trial_looks::operands::copy_bytes;
+use trial_looks::operands::copy_elements;
+use trial_looks::operands::element;
+use trial_looks::operands::operands;
+use trial_looks::operands::side_of;
+use trial_looks::operands::test_of;
+use trial_looks::state::Called;
+use trial_looks::state::Queues;
 use trial_text::call;
 use trial_text::list;
 use trial_text::put_spaced;

@@ -1,30 +1,26 @@
 // A line's call: made on the two queues, and what it gave put into the line of output.
 mod changes; // changes.rt: the calls that can change a queue
-mod looks; // looks.rt: the calls that only look
-mod operands; // operands.rt: the words of a line
 mod sets; // sets.rt: the calls that set a state
-mod state; // state.rt: what is kept of the two queues
-mod steps; // steps.rt: the walks
 
 use changes::change;
-use looks::compare;
-use looks::look_at;
-use operands::call_number;
-use operands::operands;
-use operands::side_of;
 pub use sets::fill;
 use sets::plant;
 use sets::set;
-pub use state::Called;
-use state::CalledOne;
-pub use state::Kept;
-pub use state::Queues;
-pub use state::Walking;
-use state::other;
-pub use state::quiet;
-pub use state::record;
-use state::slots_of;
-use steps::walk;
+use trial_looks::compare;
+use trial_looks::look_at;
+use trial_looks::operands::call_number;
+use trial_looks::operands::operands;
+use trial_looks::operands::side_of;
+pub use trial_looks::state::Called;
+use trial_looks::state::CalledOne;
+pub use trial_looks::state::Kept;
+pub use trial_looks::state::Queues;
+pub use trial_looks::state::Walking;
+use trial_looks::state::other;
+pub use trial_looks::state::quiet;
+pub use trial_looks::state::record;
+use trial_looks::state::slots_of;
+use trial_looks::walk;
 use trial_text::call;
 use trial_text::said::put_done;
 use trial_text::well_formed;

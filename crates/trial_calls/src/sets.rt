@@ -1,8 +1,8 @@
 // The calls that set a state.
-use crate::state::Kept;
-use crate::state::Queues;
-use crate::state::quiet;
-use crate::state::record;
+use trial_looks::state::Kept;
+use trial_looks::state::Queues;
+use trial_looks::state::quiet;
+use trial_looks::state::record;
 use trial_text::RECORD;
 use trial_text::call;
 use trial_text::word;

@@ -3,8 +3,8 @@ use mathlib.Core.Path.{_≡_}
 use native.Mathlib.Omega.{arith}
 use lib.ListN.{length, length-set}
 use borrow.Author.Needs.{needs}
-use Rattle.trial_calls.proofs.operands.copy_bytes.Statement.{statement}
-use Rattle.trial_calls.proofs.operands.copy_bytes.Tie as tie
+use Rattle.trial_looks.proofs.operands.copy_bytes.Statement.{statement}
+use Rattle.trial_looks.proofs.operands.copy_bytes.Tie as tie
 
 abbrev Inv-loop : tie.InvT-loop
 Inv-loop words bytes₀ i₀ i-end bytes i = (i ≤ length words) × (i-end ≡ length words) × (length bytes ≡ length bytes₀)
