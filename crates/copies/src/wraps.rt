@@ -31,7 +31,7 @@ fn copy_dst_before_src(slots: &mut [u32], src: WrappedIndex, dst: WrappedIndex, 
         copy(slots, src, dst, dst_pre_wrap_len);
         copy(
             slots,
-            src.add(dst_pre_wrap_len),
+            places::add(src, dst_pre_wrap_len),
             WrappedIndex::zero(),
             len - dst_pre_wrap_len,
         );
@@ -48,7 +48,7 @@ fn copy_dst_before_src(slots: &mut [u32], src: WrappedIndex, dst: WrappedIndex, 
         copy(
             slots,
             WrappedIndex::zero(),
-            dst.add(src_pre_wrap_len),
+            places::add(dst, src_pre_wrap_len),
             len - src_pre_wrap_len,
         );
     } else {
@@ -66,7 +66,7 @@ fn copy_dst_before_src(slots: &mut [u32], src: WrappedIndex, dst: WrappedIndex, 
         copy(
             slots,
             WrappedIndex::zero(),
-            dst.add(src_pre_wrap_len),
+            places::add(dst, src_pre_wrap_len),
             delta,
         );
         copy(
@@ -100,7 +100,7 @@ fn copy_src_before_dst(slots: &mut [u32], src: WrappedIndex, dst: WrappedIndex, 
         //
         copy(
             slots,
-            src.add(dst_pre_wrap_len),
+            places::add(src, dst_pre_wrap_len),
             WrappedIndex::zero(),
             len - dst_pre_wrap_len,
         );
@@ -117,7 +117,7 @@ fn copy_src_before_dst(slots: &mut [u32], src: WrappedIndex, dst: WrappedIndex, 
         copy(
             slots,
             WrappedIndex::zero(),
-            dst.add(src_pre_wrap_len),
+            places::add(dst, src_pre_wrap_len),
             len - src_pre_wrap_len,
         );
         copy(slots, src, dst, src_pre_wrap_len);
