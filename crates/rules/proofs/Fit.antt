@@ -22,6 +22,13 @@ pub data Fit (b : List ℕ) : State → Type 0 where
   fit-shut : {r : Rec} → Good (length b) r → Fit b (shut r)
   fit-draining : {d : Drain} → length b ≤ mostSlots → GoodDrain (length b) d → Fit b (draining d)
 
+-- so the record that is taken of it is good
+pub shut-good : {b : List ℕ} {r : Rec} → Fit b (shut r) → Good (length b) r
+shut-good (fit-shut g) = g
+
+pub draining-good : {b : List ℕ} {d : Drain} → Fit b (draining d) → (length b ≤ mostSlots) × GoodDrain (length b) d
+draining-good (fit-draining few g) = (few, g)
+
 -- under a good record the list of the queue stands, and while a drain is open what it leaves standing
 pub stands-shut : (b : List ℕ) (r : Rec) → Good (length b) r → stands b (shut r) ≡ held b r
 unfolding stands whether

@@ -1,10 +1,11 @@
 -- THE CODE IS IN THE THEOREM: what sequences of calls of `turn` leave is what the
 -- rules' sequences leave, so the theorems of those hold of these. Assumes nothing.
-use mathlib.Core.List.{List}
+use mathlib.Core.List.{List, []}
+use mathlib.Core.Logic.{_≢_}
 use mathlib.Core.Path.{_≡_, refl, sym, _∙_, ap, subst}
 use Prim.Native.Nat.{ℕ, _+_}
 use lib.ListN.{take}
-use Rattle.rules.proofs.Theorems.{conserved}
+use Rattle.rules.proofs.Theorems.{conserved, refused-leaves}
 use Rattle.rules.specs.Sequences.{Pair, CallStep, StepAnswer, Turn, pairOf, queueOf, step, toldStep, start, run, timesEntered, timesLeft}
 use Rattle.rules.specs.Standing.{standingSlots}
 use Rattle.answers.specs.Answers.{ofStepAnswer}
@@ -17,6 +18,17 @@ queues-left : (c : CallStep) (r : StepAnswered) (x y : List ℕ) → (ofStepAnsw
     → leftBy r x y ≡ c .queues
 queues-left c r x y e = ap (λ (t : StepAnswer × List ℕ × List ℕ). pairOf (queueOf (t .1) (t .0 .a))
     (queueOf (t .2) (t .0 .b))) e
+
+-- So condition 1 holds of the code: where a call of `turn` on any queues s is
+-- refused, what it leaves is s, nothing entered, and nothing left by it.
+pub code-refused-leaves : (s : Pair) (t : Turn) (r : StepAnswered) (x y : List ℕ)
+    → (ofStepAnswer r, x, y) ≡ toldStep (step s t)
+    → ofStepAnswer r .refused ≢ 0
+    → (leftBy r x y ≡ s) × (step s t .entered ≡ []) × (step s t .left ≡ [])
+code-refused-leaves s t r x y f ne =
+    let refused = ap (λ (a : StepAnswer × List ℕ × List ℕ). a .0 .refused) f in
+    let n = refused-leaves s t (λ z. ne (refused ∙ z)) in
+    (queues-left (step s t) r x y f ∙ n .queues, n .entered, n .left)
 
 -- A sequence of calls of `turn`, each given what the last left, is such a sequence of the rules.
 pub is-run : {s e : Pair} {ts : List Turn} → Played s ts e → run s ts ≡ e
