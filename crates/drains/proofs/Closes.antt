@@ -7,9 +7,9 @@ use native.Mathlib.Nat.{add-zero}
 use native.Mathlib.Omega.{arith}
 use lib.Dec.{eqb, ltb, ltb→lt, nltb→le}
 use lib.ListN.{length, take, drop}
-use Rattle.holes.proofs.Closes.{lay-over}
-use Rattle.holes.specs.Holes.{HoleClosed, joinedHead, joinedMoved}
-use Rattle.rules.proofs.Drains.{kept-length}
+use Rattle.holes.proofs.Closes.{lay-over, hole-closed, joinedHead, joinedMoved}
+use Rattle.holes.specs.Holes.{closedHole}
+use Rattle.rules.proofs.Drains.{drain-ok, kept-length}
 use Rattle.rules.proofs.Slots.{length-listOf, lay-none}
 use Rattle.rules.proofs.Choices.{by-test}
 use Rattle.rules.proofs.Told.{accepted-as}
@@ -27,11 +27,14 @@ smaller s t = by-test (ltb s t) (λ m. m ≡ min s t) (λ lt. omega (arith, ltb�
 
 -- an accepted closing: what is kept is laid from the new head
 pub drain-closed : (b b′ : List ℕ) (d : Drain) (h′ m : ℕ) (r : Rec) → onDrain (length b) d ≡ 0
-    → HoleClosed b b′ (d .head) (d .start) 0 (d .drained) (d .tail) h′ m
+    → (h′, m, b′) ≡ closedHole b (d .head) (d .start) 0 (d .drained) (d .tail)
     → r ≡ stepped (asOpened d) (whether (eqb (d .start + d .tail) 0) 0 h′) (d .start + d .tail)
     → (record { refused = 0; moved = m; state = shut r; handed = none }, b′) ≡ told (doClose b d)
 unfolding doClose closeDrain closedHead closedMoved joinedHead joinedMoved unless keptList held
-drain-closed b b′ d h′ m r first c made =
+drain-closed b b′ d h′ m r first closed made =
+    let g = drain-ok (length b) d first .1 in
+    let c = hole-closed b (d .head) (d .start) 0 (d .drained) (d .tail) (g .whole .placed)
+    (omega (arith, g .whole .fits)) b′ h′ m closed in
     let whole = listOf b (d .head) (d .start + d .drained + d .tail) in
     let kept = take (d .start) whole ++ drop (d .start + d .drained) whole in
     let many : length kept ≡ d .start + d .tail = kept-length whole d (length-listOf b (d .head) _) in

@@ -6,7 +6,7 @@ ghost use lib.ListN.{length};
 ghost use Rattle.rules.specs.Places.{place};
 ghost use Rattle.rules.specs.Refusals.{mostSlots};
 ghost use Rattle.rules.specs.Slots.{copied};
-ghost use Rattle.holes.specs.Holes.{HoleClosed, SideMoves};
+ghost use Rattle.holes.specs.Holes.{closedHole, shorterSide};
 
 // Where a queue begins once its elements have moved, and how many did.
 pub struct Settled {
@@ -50,7 +50,9 @@ fn shorter_side(
     tail: usize,
 ) -> Shorter
     requires { ⌜ (head .0 < cap) × (start + new + hole + tail ≤ cap) × (cap ≤ mostSlots) ⌝ }
-    ensures { λ r. ⌜ SideMoves cap (head .0) start new hole tail (r .src .0) (r .dst .0) (r .n) (r .head .0) ⌝ }
+    ensures { λ r.
+        ⌜ record { from = r .src .0; to = r .dst .0; many = r .n; head = r .head .0 }
+        ≡ shorterSide cap (head .0) start new hole tail ⌝ }
 {
     let before = start + new;
     if before < tail {
@@ -94,7 +96,7 @@ pub fn close_hole(
     requires { ⌜ (head .0 ≤ length (now slots) - 1) × (start + new + hole + tail ≤ length (now slots))
         × (length (now slots) ≤ mostSlots) ⌝ }
     ensures { λ r.
-        ⌜ HoleClosed (now (slots .entry)) (now (slots .exit)) (head .0) start new hole tail (r .head .0) (r .moved) ⌝ }
+        ⌜ (r .head .0, r .moved, now (slots .exit)) ≡ closedHole (now (slots .entry)) (head .0) start new hole tail ⌝ }
 {
     if hole == 0 {
         return Settled { head, moved: 0 };

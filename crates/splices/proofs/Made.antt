@@ -7,8 +7,9 @@ use native.Mathlib.Omega.{arith}
 use borrow.Author.Tests.{le-ltb, lt-ltb, ne-eqb, eq-eqb}
 use lib.Dec.{ltb}
 use lib.ListN.{length}
+use Rattle.holes.proofs.Closes.{hole-closed, joinedHead, joinedMoved}
 use Rattle.holes.proofs.Rooms.{tail-moved}
-use Rattle.holes.specs.Holes.{joinedHead, joinedMoved, HoleClosed}
+use Rattle.holes.specs.Holes.{closedHole}
 use Rattle.rules.proofs.Places.{place-good}
 use Rattle.rules.proofs.Choices.{lt-or-ge, by-test}
 use Rattle.rules.specs.Places.{place}
@@ -42,8 +43,11 @@ module _ (b : List ℕ) (h s d r t : ℕ) where
         (λ (lt : r < d). rw (ne-eqb (d - r) 0 (λ e. omega arith), le-ltb d r fewer, lt-ltb r d lt))
         (λ (ge : d ≤ r). rw (eq-eqb (d - r) 0 (omega arith), le-ltb d r fewer, le-ltb r d ge)) (lt-or-ge r d)
 
-    pub by-hole : (b′ : List ℕ) (h′ m : ℕ) → HoleClosed b b′ h s r (d - r) t h′ m → SpliceMade b b′ h s d r t h′ m
-    by-hole b′ h′ m c =
+    pub by-hole : (b′ : List ℕ) (h′ m : ℕ) → h ≤ length b - 1 → s + d + t ≤ length b
+        → (h′, m, b′) ≡ closedHole b h s r (d - r) t
+        → SpliceMade b b′ h s d r t h′ m
+    by-hole b′ h′ m good fits closed =
+        let c = hole-closed b h s r (d - r) t good (omega arith) b′ h′ m closed in
         let all : d - r + r ≡ d = omega arith in
         record { head = c .head ∙ same-head (length b); moved = c .moved ∙ same-moved; room = rw all at (c .room) }
 

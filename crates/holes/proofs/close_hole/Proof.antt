@@ -7,7 +7,7 @@ use Rattle.holes.proofs.close_hole.Statement.{statement}
 use Rattle.holes.proofs.close_hole.Tie as tie
 
 returns : tie.Need-returns
-returns c = let p = c .before .before .pre in no-hole _ _ _ _ _ _ (p .0) (p .1) (c .if1 .taken)
+returns c = no-hole _ _ _ _ _ _ (c .if1 .taken)
 
 shorter-side-requires : tie.Need-shorter-side-requires
 shorter-side-requires c κs = search needs
@@ -15,8 +15,8 @@ shorter-side-requires c κs = search needs
 wrap-copy-requires : tie.Need-wrap-copy-requires
 wrap-copy-requires c κs =
     let st = c .before .before .before .before .before .before .before in
-    side-can-move (now (st .args .slots)) _ _ _ _ _ (omega arith) (st .pre .1) _ _ _ _
-    (c .before .before .before .before .shorter-side .ensures) (st .pre .2)
+    side-can-move (now (st .args .slots)) _ _ _ _ _ _ (c .before .before .before .before .shorter-side .ensures)
+    (omega arith) (st .pre .1) (st .pre .2)
 
 same-length : tie.Need-same-length
 same-length c = search needs
@@ -24,7 +24,7 @@ same-length c = search needs
 returns-2 : tie.Need-returns-2
 returns-2 c =
     let st = c .before .before .before .before .before .before .before .before .before .before in
-    side-moved (now (st .args .slots)) _ _ _ _ _ (omega arith) (st .pre .1) _ _ _ _
+    side-moved (now (st .args .slots)) _ _ _ _ _ _
     (c .before .before .before .before .before .before .before .shorter-side .ensures)
     (c .before .before .before .before .before .before .before .before .if1 .left) _
     (c .before .before .wrap-copy .ensures)

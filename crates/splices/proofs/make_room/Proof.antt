@@ -28,7 +28,8 @@ same-length-2 : tie.Need-same-length-2
 same-length-2 c = search needs
 
 returns-2 : tie.Need-returns-2
-returns-2 c = by-hole _ _ _ _ _ _ (omega arith) _ _ _ (c .before .before .close-hole .ensures)
+returns-2 c = by-hole _ _ _ _ _ _ (omega arith) _ _ _ (omega arith) (omega arith)
+    (c .before .before .close-hole .ensures)
 
 pub make-room-spec : {M : Type 1} → statement M
 make-room-spec =
