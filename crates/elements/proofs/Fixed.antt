@@ -1,64 +1,97 @@
--- An answer that carries an element is fixed by what is said of
--- it: two of which the same is said are one. Assumes nothing.
+-- The answers that carry an element: each is fixed by what is said of it (see queue/proofs/Fixed). Assumes nothing.
 use mathlib.Core.Option.{Option, none, some}
-use mathlib.Core.Path.{_≡_, refl}
+use mathlib.Core.Path.{_≡_, refl, ap}
 use Prim.Native.Nat.{ℕ}
-use lib.Dec.{eqb}
-use Rattle.elements.specs.Answers.{ofHanded, ofFound}
-use Rattle.queue.proofs.Fixed.{named, dequeOf, fixed}
-use Rattle.queue.specs.Answers.{numberOf}
-use Rattle.rules.specs.Looks.{Look, refuses, sees}
+use Rattle.elements.specs.Answers.{ofGiven, ofHanded, ofDrawn, ofFound, ofStepped}
+use Rattle.queue.proofs.Fixed.{fixed, named-back, byNumber, refused-back, queueIn, drainIn, walkFrom}
+use Rattle.queue.proofs.FixedLooks.{bySight}
+use Rattle.rules.specs.Choices.{unless}
+use Rattle.rules.specs.Looks.{Look}
 use Rattle.rules.specs.Outcome.{Answer}
-use Rattle.rules.specs.Choices.{whether}
-use Rattle.queue.specs.declared.records.Deque.{Deque}
-use Rattle.queue.specs.declared.refusals.Refusal.the-variants.{Slots, Record, Position, Room, Image}
+use Rattle.rules.specs.Walks.{WalkStep}
+use Rattle.elements.specs.declared.answers.Given.{Given}
+use Rattle.elements.specs.declared.answers.Given.the-variants as given
 use Rattle.elements.specs.declared.answers.Handed.{Handed}
-use Rattle.elements.specs.declared.answers.Handed.the-variants.{Number, Nothing, Refused as NotHanded}
+use Rattle.elements.specs.declared.answers.Handed.the-variants as handed
+use Rattle.elements.specs.declared.answers.Drawn.{Drawn}
+use Rattle.elements.specs.declared.answers.Drawn.the-variants as drawn
 use Rattle.elements.specs.declared.answers.Found.{Found}
-use Rattle.elements.specs.declared.answers.Found.the-variants.{Number as Sees, Nothing as SeesNone, Refused as NotSeen}
+use Rattle.elements.specs.declared.answers.Found.the-variants as found
+use Rattle.elements.specs.declared.answers.Stepped.{Stepped}
+use Rattle.elements.specs.declared.answers.Stepped.the-variants as stepped
 
--- ---- the way back, for each kind of answer
+-- the answer for a number that is there, or not
+abbrev pub byGiven : {A : Type 0} → A → (ℕ → A) → Option ℕ → A
+byGiven a f none = a
+byGiven a f (some v) = f v
 
-numberOr : Option ℕ → Deque → ℕ → Handed
-numberOr none q m = Nothing q m
-numberOr (some v) q m = Number v q m
+-- ---- for each answer the way back, and that it leads back
+
+abbrev pub givenOf : Option ℕ → Given
+givenOf v = byGiven given.Nothing given.Number v
+
+pub given-back : (a : Given) → givenOf (ofGiven a) ≡ a
+given-back (given.Number v) = refl
+given-back given.Nothing = refl
+
+pub one-given : (a b : Given) → ofGiven a ≡ ofGiven b → a ≡ b
+one-given = fixed ofGiven givenOf given-back
 
 handedOf : Answer → Handed
 handedOf a =
-    let q = dequeOf (a .state) in
-    whether (eqb (a .refused) 0) (numberOr (a .handed) q (a .moved)) (NotHanded (named (a .refused)) q (a .moved))
-
-foundOf : Look (Option ℕ) → Found
-foundOf (refuses n) = NotSeen (named n)
-foundOf (sees none) = SeesNone
-foundOf (sees (some v)) = Sees v
-
--- ---- it leads back
+    let q = queueIn (a .state) in
+    let m = a .moved in
+    byNumber (a .refused) (byGiven (handed.Nothing q m) (λ v. handed.Number v q m) (a .handed))
+    (λ x. handed.Refused x q m)
 
 handed-back : (a : Handed) → handedOf (ofHanded a) ≡ a
-unfolding handedOf numberOr dequeOf named numberOf whether
-handed-back (Number v q m) = refl
-handed-back (Nothing q m) = refl
-handed-back (NotHanded Slots q m) = refl
-handed-back (NotHanded Record q m) = refl
-handed-back (NotHanded Position q m) = refl
-handed-back (NotHanded Room q m) = refl
-handed-back (NotHanded Image q m) = refl
-
-found-back : (a : Found) → foundOf (ofFound a) ≡ a
-unfolding foundOf named numberOf whether
-found-back (Sees v) = refl
-found-back SeesNone = refl
-found-back (NotSeen Slots) = refl
-found-back (NotSeen Record) = refl
-found-back (NotSeen Position) = refl
-found-back (NotSeen Room) = refl
-found-back (NotSeen Image) = refl
-
--- ---- so one answer is left
+unfolding handedOf unless
+handed-back (handed.Number v q m) = refl
+handed-back (handed.Nothing q m) = refl
+handed-back (handed.Refused x q m) = refused-back x _ (λ y. handed.Refused y q m)
 
 pub one-handed : (a b : Handed) → ofHanded a ≡ ofHanded b → a ≡ b
 one-handed = fixed ofHanded handedOf handed-back
 
+drawnOf : Answer → Drawn
+drawnOf a =
+    let d = drainIn (a .state) in
+    let m = a .moved in
+    byNumber (a .refused) (byGiven (drawn.Nothing d m) (λ v. drawn.Number v d m) (a .handed))
+    (λ x. drawn.Refused x d m)
+
+drawn-back : (a : Drawn) → drawnOf (ofDrawn a) ≡ a
+unfolding drawnOf unless
+drawn-back (drawn.Number v d m) = refl
+drawn-back (drawn.Nothing d m) = refl
+drawn-back (drawn.Refused x d m) = refused-back x _ (λ y. drawn.Refused y d m)
+
+pub one-drawn : (a b : Drawn) → ofDrawn a ≡ ofDrawn b → a ≡ b
+one-drawn = fixed ofDrawn drawnOf drawn-back
+
+foundOf : Look (Option ℕ) → Found
+foundOf = bySight (byGiven found.Nothing found.Number) found.Refused
+
+found-back : (a : Found) → foundOf (ofFound a) ≡ a
+unfolding foundOf
+found-back (found.Number v) = refl
+found-back found.Nothing = refl
+found-back (found.Refused x) = ap found.Refused (named-back x)
+
 pub one-found : (a b : Found) → ofFound a ≡ ofFound b → a ≡ b
 one-found = fixed ofFound foundOf found-back
+
+steppedOf : WalkStep → Stepped
+steppedOf s =
+    let w = walkFrom (s .walk) in
+    byNumber (s .refused) (byGiven (stepped.Nothing w) (λ v. stepped.Number v w) (s .gives))
+    (λ x. stepped.Refused x w)
+
+stepped-back : (a : Stepped) → steppedOf (ofStepped a) ≡ a
+unfolding steppedOf unless
+stepped-back (stepped.Number v w) = refl
+stepped-back (stepped.Nothing w) = refl
+stepped-back (stepped.Refused x w) = refused-back x _ (λ y. stepped.Refused y w)
+
+pub one-stepped : (a b : Stepped) → ofStepped a ≡ ofStepped b → a ≡ b
+one-stepped = fixed ofStepped steppedOf stepped-back

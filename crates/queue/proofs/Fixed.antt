@@ -1,73 +1,227 @@
--- An answer is fixed by document 01's number and values for it:
--- two answers of which the same is said are one. Assumes nothing.
+-- ONE POSSIBLE ANSWER. A contract equates what is said of an answer, document 01's number and values for it, with what
+-- the rules say. Here and in the files below it is proved that an answer is fixed by what is said of it: two of which
+-- the same is said are one. So each contract leaves one possible answer, a refused one too. What is fixed where:
+--   queue/proofs/Fixed: Refusal, Checked; Deque, Drain, State, Walk, Span; Change, Made, Opened, Closed, Joined, Split
+--   queue/proofs/FixedLooks: Ranges, Begun, Truth, Ordering, Searched, Point, Written
+--   elements/proofs/Fixed: Given, Handed, Drawn, Found, Stepped
+--   walks/proofs/Fixed: Iterator, IteratorStep
+--   answers/proofs/Fixed: Sight, Looked, Answer, StepAnswer
+--   journals/proofs/Fixed: Operation, Record
+--   replies/proofs/Fixed: Reply, FoundReply, TruthReply, OrderReply, SearchReply, CountReply, Asked
+-- Assumes nothing.
 use mathlib.Core.Option.{Option, none, some}
 use mathlib.Core.Path.{_≡_, refl, sym, _∙_, ap}
 use Prim.Native.Nat.{ℕ}
 use lib.Dec.{eqb}
+use Rattle.rules.proofs.Choices.{unless-stop}
+use Rattle.rules.specs.Choices.{whether, unless}
+use Rattle.rules.specs.Drains.{Drain, asOpened, opened}
 use Rattle.rules.specs.Makes.{MakeAnswer}
 use Rattle.rules.specs.Outcome.{Answer, State, shut, draining}
-use Rattle.rules.specs.Records.{Rec}
-use Rattle.rules.specs.Choices.{whether}
-use Rattle.queue.specs.Answers.{numberOf, ofChange, ofMade}
+use Rattle.rules.specs.Pairs.{PairAnswer}
+use Rattle.rules.specs.Records.{Rec, newRec}
+use Rattle.rules.specs.Runs as rules
+use Rattle.rules.specs.Walks.{Walk as RuledWalk}
+use Rattle.queue.proofs.Numbers.{some-number}
+use Rattle.queue.specs.Answers.{recOf, numberOf, numberIn, ofChange, ofMade}
+use Rattle.queue.specs.Drains.{drainOf, stateOf, ofOpened, ofClosed}
+use Rattle.queue.specs.Looks.{walkOf, spanOf}
+use Rattle.queue.specs.Pairs.{ofJoined, ofSplit}
 use Rattle.queue.specs.declared.records.Deque.{Deque}
+use Rattle.queue.specs.declared.records.Drain.{Drain as Draining}
+use Rattle.queue.specs.declared.records.State.{State as Kept}
+use Rattle.queue.specs.declared.records.State.the-variants as kept
+use Rattle.queue.specs.declared.records.Walk.{Walk}
+use Rattle.queue.specs.declared.records.Span.{Span}
 use Rattle.queue.specs.declared.refusals.Refusal.{Refusal}
 use Rattle.queue.specs.declared.refusals.Refusal.the-variants.{Slots, Record, Position, Room, Image}
+use Rattle.queue.specs.declared.refusals.Checked.{Checked}
+use Rattle.queue.specs.declared.refusals.Checked.the-variants as checked
 use Rattle.queue.specs.declared.answers.Change.{Change}
-use Rattle.queue.specs.declared.answers.Change.the-variants.{Done, Refused}
+use Rattle.queue.specs.declared.answers.Change.the-variants as change
 use Rattle.queue.specs.declared.answers.Made.{Made}
-use Rattle.queue.specs.declared.answers.Made.the-variants.{Done as Ready, Refused as NotMade}
-
--- ---- the way back, for each kind of answer
-
--- the refusal of a number
-unfoldable pub named : ℕ → Refusal
-named n = whether (eqb n 1) Slots (whether (eqb n 2) Record (whether (eqb n 3) Position (whether (eqb n 4) Room Image)))
-
--- the record of a queue
-unfoldable pub dequeOf : State → Deque
-dequeOf (shut r) = record { head = record { 0 = r .head }; len = r .len }
-dequeOf (draining d) = record { head = record { 0 = d .head }; len = 0 }
-
-changeOf : Answer → Change
-changeOf a = whether (eqb (a .refused) 0) (Done (dequeOf (a .state)) (a .moved))
-    (Refused (named (a .refused)) (dequeOf (a .state)) (a .moved))
-
-recordOr : Option Rec → ℕ → ℕ → Made
-recordOr none n m = NotMade (named n) m
-recordOr (some r) n m = Ready (dequeOf (shut r)) m
-
-madeOf : MakeAnswer → Made
-madeOf a = recordOr (a .made) (a .refused) (a .moved)
-
--- ---- it leads back
-
-change-back : (a : Change) → changeOf (ofChange a) ≡ a
-unfolding changeOf dequeOf named numberOf whether
-change-back (Done q m) = refl
-change-back (Refused Slots q m) = refl
-change-back (Refused Record q m) = refl
-change-back (Refused Position q m) = refl
-change-back (Refused Room q m) = refl
-change-back (Refused Image q m) = refl
-
-made-back : (a : Made) → madeOf (ofMade a) ≡ a
-unfolding madeOf recordOr dequeOf named numberOf whether
-made-back (Ready q m) = refl
-made-back (NotMade Slots m) = refl
-made-back (NotMade Record m) = refl
-made-back (NotMade Position m) = refl
-made-back (NotMade Room m) = refl
-made-back (NotMade Image m) = refl
-
--- ---- so one answer is left
+use Rattle.queue.specs.declared.answers.Made.the-variants as made
+use Rattle.queue.specs.declared.answers.Opened.{Opened}
+use Rattle.queue.specs.declared.answers.Opened.the-variants as opens
+use Rattle.queue.specs.declared.answers.Closed.{Closed}
+use Rattle.queue.specs.declared.answers.Closed.the-variants as closed
+use Rattle.queue.specs.declared.answers.Joined.{Joined}
+use Rattle.queue.specs.declared.answers.Joined.the-variants as joined
+use Rattle.queue.specs.declared.answers.Split.{Split}
+use Rattle.queue.specs.declared.answers.Split.the-variants as split
 
 -- what has a way back is fixed by what is said of it
 pub fixed : {A B : Type 0} (say : A → B) (back : B → A) → ((a : A) → back (say a) ≡ a)
     → (a b : A) → say a ≡ say b → a ≡ b
 fixed say back leads a b e = sym (leads a) ∙ ap back e ∙ leads b
 
+-- ---- the refusals
+
+-- the refusal of a number
+unfoldable pub named : ℕ → Refusal
+named n = whether (eqb n 1) Slots (whether (eqb n 2) Record (whether (eqb n 3) Position (whether (eqb n 4) Room Image)))
+
+pub named-back : (x : Refusal) → named (numberOf x) ≡ x
+unfolding named numberOf whether
+named-back Slots = refl
+named-back Record = refl
+named-back Position = refl
+named-back Room = refl
+named-back Image = refl
+
+-- the answer for a refusal number: a where it is 0, else f of the refusal
+abbrev pub byNumber : {A : Type 0} → ℕ → A → (Refusal → A) → A
+byNumber n a f = unless n a (f (named n))
+
+-- of a refused answer it leads back
+pub refused-back : {A : Type 0} (x : Refusal) (a : A) (f : Refusal → A) → byNumber (numberOf x) a f ≡ f x
+refused-back x a f = unless-stop (numberOf x) a (f (named (numberOf x))) (some-number x) ∙ ap f (named-back x)
+
+-- what the tests answer
+checkedOf : ℕ → Checked
+checkedOf n = byNumber n checked.Good checked.Refused
+
+checked-back : (a : Checked) → checkedOf (numberIn a) ≡ a
+unfolding checkedOf unless
+checked-back checked.Good = refl
+checked-back (checked.Refused x) = refused-back x _ checked.Refused
+
+pub one-checked : (a b : Checked) → numberIn a ≡ numberIn b → a ≡ b
+one-checked = fixed numberIn checkedOf checked-back
+
+-- ---- the records
+
+abbrev pub dequeOf : Rec → Deque
+dequeOf r = record { head = record { 0 = r .head }; len = r .len }
+
+abbrev pub drainingOf : Drain → Draining
+drainingOf d = record {
+  head = record { 0 = d .head };
+  start = d .start;
+  «drain_len» = d .drained;
+  idx = d .idx;
+  «tail_len» = d .tail;
+  remaining = d .remaining;
+}
+
+abbrev pub keptOf : State → Kept
+keptOf (shut r) = kept.Shut (dequeOf r)
+keptOf (draining d) = kept.Draining (drainingOf d)
+
+abbrev pub walkFrom : RuledWalk → Walk
+walkFrom w = record { queue = dequeOf (w .rec); low = w .low; high = w .high }
+
+abbrev pub spanFrom : rules.Span → Span
+spanFrom p = record { start = p .a; end = p .e }
+
+pub one-deque : (a b : Deque) → recOf a ≡ recOf b → a ≡ b
+one-deque = fixed recOf dequeOf (λ q. refl)
+
+pub one-drain : (a b : Draining) → drainOf a ≡ drainOf b → a ≡ b
+one-drain = fixed drainOf drainingOf (λ d. refl)
+
+pub kept-back : (a : Kept) → keptOf (stateOf a) ≡ a
+kept-back (kept.Shut q) = refl
+kept-back (kept.Draining d) = refl
+
+pub one-state : (a b : Kept) → stateOf a ≡ stateOf b → a ≡ b
+one-state = fixed stateOf keptOf kept-back
+
+pub one-walk : (a b : Walk) → walkOf a ≡ walkOf b → a ≡ b
+one-walk = fixed walkOf walkFrom (λ w. refl)
+
+pub one-span : (a b : Span) → spanOf a ≡ spanOf b → a ≡ b
+one-span = fixed spanOf spanFrom (λ p. refl)
+
+-- of an answer with a queue's record, or with a drain's: that record (where it is the other's, any will do)
+abbrev pub queueIn : State → Deque
+queueIn (shut r) = dequeOf r
+queueIn (draining d) = dequeOf (asOpened d)
+
+abbrev pub drainIn : State → Draining
+drainIn (shut r) = drainingOf (opened r 0 0)
+drainIn (draining d) = drainingOf d
+
+-- the same of an answer that may make none
+abbrev recordIn : Option Rec → Deque
+recordIn none = dequeOf (newRec 0)
+recordIn (some r) = dequeOf r
+
+-- ---- the answers: for each the way back, and that it leads back
+
+changeOf : Answer → Change
+changeOf a =
+    byNumber (a .refused) (change.Done (queueIn (a .state)) (a .moved))
+    (λ x. change.Refused x (queueIn (a .state)) (a .moved))
+
+change-back : (a : Change) → changeOf (ofChange a) ≡ a
+unfolding changeOf unless
+change-back (change.Done q m) = refl
+change-back (change.Refused x q m) = refused-back x _ (λ y. change.Refused y q m)
+
 pub one-change : (a b : Change) → ofChange a ≡ ofChange b → a ≡ b
 one-change = fixed ofChange changeOf change-back
 
+madeOf : MakeAnswer → Made
+madeOf a = byNumber (a .refused) (made.Done (recordIn (a .made)) (a .moved)) (λ x. made.Refused x (a .moved))
+
+made-back : (a : Made) → madeOf (ofMade a) ≡ a
+unfolding madeOf unless
+made-back (made.Done q m) = refl
+made-back (made.Refused x m) = refused-back x _ (λ y. made.Refused y m)
+
 pub one-made : (a b : Made) → ofMade a ≡ ofMade b → a ≡ b
 one-made = fixed ofMade madeOf made-back
+
+openedOf : Answer → Opened
+openedOf a =
+    byNumber (a .refused) (opens.Done (drainIn (a .state)) (a .moved))
+    (λ x. opens.Refused x (queueIn (a .state)) (a .moved))
+
+opened-back : (a : Opened) → openedOf (ofOpened a) ≡ a
+unfolding openedOf unless
+opened-back (opens.Done d m) = refl
+opened-back (opens.Refused x q m) = refused-back x _ (λ y. opens.Refused y q m)
+
+pub one-opened : (a b : Opened) → ofOpened a ≡ ofOpened b → a ≡ b
+one-opened = fixed ofOpened openedOf opened-back
+
+closedOf : Answer → Closed
+closedOf a =
+    byNumber (a .refused) (closed.Done (queueIn (a .state)) (a .moved))
+    (λ x. closed.Refused x (drainIn (a .state)) (a .moved))
+
+closed-back : (a : Closed) → closedOf (ofClosed a) ≡ a
+unfolding closedOf unless
+closed-back (closed.Done q m) = refl
+closed-back (closed.Refused x d m) = refused-back x _ (λ y. closed.Refused y d m)
+
+pub one-closed : (a b : Closed) → ofClosed a ≡ ofClosed b → a ≡ b
+one-closed = fixed ofClosed closedOf closed-back
+
+joinedOf : PairAnswer → Joined
+joinedOf a =
+    let q = dequeOf (a .rec) in
+    let o = recordIn (a .other) in
+    byNumber (a .refused) (joined.Done q o (a .moved)) (λ x. joined.Refused x q o (a .moved))
+
+joined-back : (a : Joined) → joinedOf (ofJoined a) ≡ a
+unfolding joinedOf unless
+joined-back (joined.Done q o m) = refl
+joined-back (joined.Refused x q o m) = refused-back x _ (λ y. joined.Refused y q o m)
+
+pub one-joined : (a b : Joined) → ofJoined a ≡ ofJoined b → a ≡ b
+one-joined = fixed ofJoined joinedOf joined-back
+
+splitOf : PairAnswer → Split
+splitOf a =
+    let q = dequeOf (a .rec) in
+    byNumber (a .refused) (split.Done q (recordIn (a .other)) (a .moved)) (λ x. split.Refused x q (a .moved))
+
+split-back : (a : Split) → splitOf (ofSplit a) ≡ a
+unfolding splitOf unless
+split-back (split.Done q o m) = refl
+split-back (split.Refused x q m) = refused-back x _ (λ y. split.Refused y q m)
+
+pub one-split : (a b : Split) → ofSplit a ≡ ofSplit b → a ≡ b
+one-split = fixed ofSplit splitOf split-back
