@@ -55,6 +55,12 @@ pub fixed : {A B : Type 0} (say : A → B) (back : B → A) → ((a : A) → bac
     → (a b : A) → say a ≡ say b → a ≡ b
 fixed say back leads a b e = sym (leads a) ∙ ap back e ∙ leads b
 
+-- so of two answers r and r′, with x and x′ left in the slots, that meet one contract, neither differs
+pub one-possible : {A B C : Type 0} (say : A → B) → ((a b : A) → say a ≡ say b → a ≡ b)
+    → (told : B × C) (r r′ : A) (x x′ : C) → (say r, x) ≡ told → (say r′, x′) ≡ told → (r ≡ r′) × (x ≡ x′)
+one-possible {A} {B} {C} say one told r r′ x x′ e e′ =
+    let same = e ∙ sym e′ in (one r r′ (ap (λ (t : B × C). t .0) same), ap (λ (t : B × C). t .1) same)
+
 -- ---- the refusals
 
 -- the refusal of a number
@@ -78,24 +84,24 @@ pub refused-back : {A : Type 0} (x : Refusal) (a : A) (f : Refusal → A) → by
 refused-back x a f = unless-stop (numberOf x) a (f (named (numberOf x))) (some-number x) ∙ ap f (named-back x)
 
 -- what the tests answer
-checkedOf : ℕ → Checked
-checkedOf n = byNumber n checked.Good checked.Refused
+checkedFrom : ℕ → Checked
+checkedFrom n = byNumber n checked.Good checked.Refused
 
-checked-back : (a : Checked) → checkedOf (numberIn a) ≡ a
-unfolding checkedOf unless
+checked-back : (a : Checked) → checkedFrom (numberIn a) ≡ a
+unfolding checkedFrom unless
 checked-back checked.Good = refl
 checked-back (checked.Refused x) = refused-back x _ checked.Refused
 
 pub one-checked : (a b : Checked) → numberIn a ≡ numberIn b → a ≡ b
-one-checked = fixed numberIn checkedOf checked-back
+one-checked = fixed numberIn checkedFrom checked-back
 
--- ---- the records
+-- ---- the records: the way back from those that the rules speak of
 
-abbrev pub dequeOf : Rec → Deque
-dequeOf r = record { head = record { 0 = r .head }; len = r .len }
+abbrev pub dequeFrom : Rec → Deque
+dequeFrom r = record { head = record { 0 = r .head }; len = r .len }
 
-abbrev pub drainingOf : Drain → Draining
-drainingOf d = record {
+abbrev pub drainFrom : Drain → Draining
+drainFrom d = record {
   head = record { 0 = d .head };
   start = d .start;
   «drain_len» = d .drained;
@@ -104,28 +110,28 @@ drainingOf d = record {
   remaining = d .remaining;
 }
 
-abbrev pub keptOf : State → Kept
-keptOf (shut r) = kept.Shut (dequeOf r)
-keptOf (draining d) = kept.Draining (drainingOf d)
+abbrev pub stateFrom : State → Kept
+stateFrom (shut r) = kept.Shut (dequeFrom r)
+stateFrom (draining d) = kept.Draining (drainFrom d)
 
 abbrev pub walkFrom : RuledWalk → Walk
-walkFrom w = record { queue = dequeOf (w .rec); low = w .low; high = w .high }
+walkFrom w = record { queue = dequeFrom (w .rec); low = w .low; high = w .high }
 
 abbrev pub spanFrom : rules.Span → Span
 spanFrom p = record { start = p .a; end = p .e }
 
 pub one-deque : (a b : Deque) → recOf a ≡ recOf b → a ≡ b
-one-deque = fixed recOf dequeOf (λ q. refl)
+one-deque = fixed recOf dequeFrom (λ q. refl)
 
 pub one-drain : (a b : Draining) → drainOf a ≡ drainOf b → a ≡ b
-one-drain = fixed drainOf drainingOf (λ d. refl)
+one-drain = fixed drainOf drainFrom (λ d. refl)
 
-pub kept-back : (a : Kept) → keptOf (stateOf a) ≡ a
-kept-back (kept.Shut q) = refl
-kept-back (kept.Draining d) = refl
+pub state-back : (a : Kept) → stateFrom (stateOf a) ≡ a
+state-back (kept.Shut q) = refl
+state-back (kept.Draining d) = refl
 
 pub one-state : (a b : Kept) → stateOf a ≡ stateOf b → a ≡ b
-one-state = fixed stateOf keptOf kept-back
+one-state = fixed stateOf stateFrom state-back
 
 pub one-walk : (a b : Walk) → walkOf a ≡ walkOf b → a ≡ b
 one-walk = fixed walkOf walkFrom (λ w. refl)
@@ -133,95 +139,95 @@ one-walk = fixed walkOf walkFrom (λ w. refl)
 pub one-span : (a b : Span) → spanOf a ≡ spanOf b → a ≡ b
 one-span = fixed spanOf spanFrom (λ p. refl)
 
--- of an answer with a queue's record, or with a drain's: that record (where it is the other's, any will do)
-abbrev pub queueIn : State → Deque
-queueIn (shut r) = dequeOf r
-queueIn (draining d) = dequeOf (asOpened d)
+-- the record of an answer with a queue's, or with a drain's; where it is the other's, any will do
+abbrev pub itsDeque : State → Deque
+itsDeque (shut r) = dequeFrom r
+itsDeque (draining d) = dequeFrom (asOpened d)
 
-abbrev pub drainIn : State → Draining
-drainIn (shut r) = drainingOf (opened r 0 0)
-drainIn (draining d) = drainingOf d
+abbrev pub itsDrain : State → Draining
+itsDrain (shut r) = drainFrom (opened r 0 0)
+itsDrain (draining d) = drainFrom d
 
--- the same of an answer that may make none
-abbrev recordIn : Option Rec → Deque
-recordIn none = dequeOf (newRec 0)
-recordIn (some r) = dequeOf r
+-- the record of an answer that makes one; where it makes none, any will do
+abbrev orNew : Option Rec → Deque
+orNew none = dequeFrom (newRec 0)
+orNew (some r) = dequeFrom r
 
 -- ---- the answers: for each the way back, and that it leads back
 
-changeOf : Answer → Change
-changeOf a =
-    byNumber (a .refused) (change.Done (queueIn (a .state)) (a .moved))
-    (λ x. change.Refused x (queueIn (a .state)) (a .moved))
+changeFrom : Answer → Change
+changeFrom a =
+    byNumber (a .refused) (change.Done (itsDeque (a .state)) (a .moved))
+    (λ x. change.Refused x (itsDeque (a .state)) (a .moved))
 
-change-back : (a : Change) → changeOf (ofChange a) ≡ a
-unfolding changeOf unless
+change-back : (a : Change) → changeFrom (ofChange a) ≡ a
+unfolding changeFrom unless
 change-back (change.Done q m) = refl
 change-back (change.Refused x q m) = refused-back x _ (λ y. change.Refused y q m)
 
 pub one-change : (a b : Change) → ofChange a ≡ ofChange b → a ≡ b
-one-change = fixed ofChange changeOf change-back
+one-change = fixed ofChange changeFrom change-back
 
-madeOf : MakeAnswer → Made
-madeOf a = byNumber (a .refused) (made.Done (recordIn (a .made)) (a .moved)) (λ x. made.Refused x (a .moved))
+madeFrom : MakeAnswer → Made
+madeFrom a = byNumber (a .refused) (made.Done (orNew (a .made)) (a .moved)) (λ x. made.Refused x (a .moved))
 
-made-back : (a : Made) → madeOf (ofMade a) ≡ a
-unfolding madeOf unless
+made-back : (a : Made) → madeFrom (ofMade a) ≡ a
+unfolding madeFrom unless
 made-back (made.Done q m) = refl
 made-back (made.Refused x m) = refused-back x _ (λ y. made.Refused y m)
 
 pub one-made : (a b : Made) → ofMade a ≡ ofMade b → a ≡ b
-one-made = fixed ofMade madeOf made-back
+one-made = fixed ofMade madeFrom made-back
 
-openedOf : Answer → Opened
-openedOf a =
-    byNumber (a .refused) (opens.Done (drainIn (a .state)) (a .moved))
-    (λ x. opens.Refused x (queueIn (a .state)) (a .moved))
+openedFrom : Answer → Opened
+openedFrom a =
+    byNumber (a .refused) (opens.Done (itsDrain (a .state)) (a .moved))
+    (λ x. opens.Refused x (itsDeque (a .state)) (a .moved))
 
-opened-back : (a : Opened) → openedOf (ofOpened a) ≡ a
-unfolding openedOf unless
+opened-back : (a : Opened) → openedFrom (ofOpened a) ≡ a
+unfolding openedFrom unless
 opened-back (opens.Done d m) = refl
 opened-back (opens.Refused x q m) = refused-back x _ (λ y. opens.Refused y q m)
 
 pub one-opened : (a b : Opened) → ofOpened a ≡ ofOpened b → a ≡ b
-one-opened = fixed ofOpened openedOf opened-back
+one-opened = fixed ofOpened openedFrom opened-back
 
-closedOf : Answer → Closed
-closedOf a =
-    byNumber (a .refused) (closed.Done (queueIn (a .state)) (a .moved))
-    (λ x. closed.Refused x (drainIn (a .state)) (a .moved))
+closedFrom : Answer → Closed
+closedFrom a =
+    byNumber (a .refused) (closed.Done (itsDeque (a .state)) (a .moved))
+    (λ x. closed.Refused x (itsDrain (a .state)) (a .moved))
 
-closed-back : (a : Closed) → closedOf (ofClosed a) ≡ a
-unfolding closedOf unless
+closed-back : (a : Closed) → closedFrom (ofClosed a) ≡ a
+unfolding closedFrom unless
 closed-back (closed.Done q m) = refl
 closed-back (closed.Refused x d m) = refused-back x _ (λ y. closed.Refused y d m)
 
 pub one-closed : (a b : Closed) → ofClosed a ≡ ofClosed b → a ≡ b
-one-closed = fixed ofClosed closedOf closed-back
+one-closed = fixed ofClosed closedFrom closed-back
 
-joinedOf : PairAnswer → Joined
-joinedOf a =
-    let q = dequeOf (a .rec) in
-    let o = recordIn (a .other) in
+joinedFrom : PairAnswer → Joined
+joinedFrom a =
+    let q = dequeFrom (a .rec) in
+    let o = orNew (a .other) in
     byNumber (a .refused) (joined.Done q o (a .moved)) (λ x. joined.Refused x q o (a .moved))
 
-joined-back : (a : Joined) → joinedOf (ofJoined a) ≡ a
-unfolding joinedOf unless
+joined-back : (a : Joined) → joinedFrom (ofJoined a) ≡ a
+unfolding joinedFrom unless
 joined-back (joined.Done q o m) = refl
 joined-back (joined.Refused x q o m) = refused-back x _ (λ y. joined.Refused y q o m)
 
 pub one-joined : (a b : Joined) → ofJoined a ≡ ofJoined b → a ≡ b
-one-joined = fixed ofJoined joinedOf joined-back
+one-joined = fixed ofJoined joinedFrom joined-back
 
-splitOf : PairAnswer → Split
-splitOf a =
-    let q = dequeOf (a .rec) in
-    byNumber (a .refused) (split.Done q (recordIn (a .other)) (a .moved)) (λ x. split.Refused x q (a .moved))
+splitFrom : PairAnswer → Split
+splitFrom a =
+    let q = dequeFrom (a .rec) in
+    byNumber (a .refused) (split.Done q (orNew (a .other)) (a .moved)) (λ x. split.Refused x q (a .moved))
 
-split-back : (a : Split) → splitOf (ofSplit a) ≡ a
-unfolding splitOf unless
+split-back : (a : Split) → splitFrom (ofSplit a) ≡ a
+unfolding splitFrom unless
 split-back (split.Done q o m) = refl
 split-back (split.Refused x q m) = refused-back x _ (λ y. split.Refused y q m)
 
 pub one-split : (a b : Split) → ofSplit a ≡ ofSplit b → a ≡ b
-one-split = fixed ofSplit splitOf split-back
+one-split = fixed ofSplit splitFrom split-back

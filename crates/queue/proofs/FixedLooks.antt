@@ -30,91 +30,91 @@ abbrev pub bySight : {A B : Type 0} → (B → A) → (Refusal → A) → Look B
 bySight f g (sees b) = f b
 bySight f g (refuses n) = g (named n)
 
-rangesOf : Look rules.TwoRuns → Ranges
-rangesOf = bySight (λ t. ranges.Runs (spanFrom (t .front)) (spanFrom (t .back))) ranges.Refused
+rangesFrom : Look rules.TwoRuns → Ranges
+rangesFrom = bySight (λ t. ranges.Runs (spanFrom (t .front)) (spanFrom (t .back))) ranges.Refused
 
-ranges-back : (a : Ranges) → rangesOf (ofRanges a) ≡ a
-unfolding rangesOf
+ranges-back : (a : Ranges) → rangesFrom (ofRanges a) ≡ a
+unfolding rangesFrom
 ranges-back (ranges.Runs f k) = refl
 ranges-back (ranges.Refused x) = ap ranges.Refused (named-back x)
 
 pub one-ranges : (a b : Ranges) → ofRanges a ≡ ofRanges b → a ≡ b
-one-ranges = fixed ofRanges rangesOf ranges-back
+one-ranges = fixed ofRanges rangesFrom ranges-back
 
-begunOf : Look RuledWalk → Begun
-begunOf = bySight (λ w. begun.Walk (walkFrom w)) begun.Refused
+begunFrom : Look RuledWalk → Begun
+begunFrom = bySight (λ w. begun.Walk (walkFrom w)) begun.Refused
 
-begun-back : (a : Begun) → begunOf (ofBegun a) ≡ a
-unfolding begunOf
+begun-back : (a : Begun) → begunFrom (ofBegun a) ≡ a
+unfolding begunFrom
 begun-back (begun.Walk w) = refl
 begun-back (begun.Refused x) = ap begun.Refused (named-back x)
 
 pub one-begun : (a b : Begun) → ofBegun a ≡ ofBegun b → a ≡ b
-one-begun = fixed ofBegun begunOf begun-back
+one-begun = fixed ofBegun begunFrom begun-back
 
-truthOf : Look Bool → Truth
-truthOf = bySight truth.Is truth.Refused
+truthFrom : Look Bool → Truth
+truthFrom = bySight truth.Is truth.Refused
 
-truth-back : (a : Truth) → truthOf (ofTruth a) ≡ a
-unfolding truthOf
+truth-back : (a : Truth) → truthFrom (ofTruth a) ≡ a
+unfolding truthFrom
 truth-back (truth.Is t) = refl
 truth-back (truth.Refused x) = ap truth.Refused (named-back x)
 
 pub one-truth : (a b : Truth) → ofTruth a ≡ ofTruth b → a ≡ b
-one-truth = fixed ofTruth truthOf truth-back
+one-truth = fixed ofTruth truthFrom truth-back
 
-orderOf : Order → Ordering
-orderOf less = ordering.Less
-orderOf alike = ordering.Equal
-orderOf greater = ordering.Greater
+orderFrom : Order → Ordering
+orderFrom less = ordering.Less
+orderFrom alike = ordering.Equal
+orderFrom greater = ordering.Greater
 
-orderingOf : Look Order → Ordering
-orderingOf = bySight orderOf ordering.Refused
+orderingFrom : Look Order → Ordering
+orderingFrom = bySight orderFrom ordering.Refused
 
-ordering-back : (a : Ordering) → orderingOf (ofOrdering a) ≡ a
-unfolding orderingOf orderOf
+ordering-back : (a : Ordering) → orderingFrom (ofOrdering a) ≡ a
+unfolding orderingFrom orderFrom
 ordering-back ordering.Less = refl
 ordering-back ordering.Equal = refl
 ordering-back ordering.Greater = refl
 ordering-back (ordering.Refused x) = ap ordering.Refused (named-back x)
 
 pub one-ordering : (a b : Ordering) → ofOrdering a ≡ ofOrdering b → a ≡ b
-one-ordering = fixed ofOrdering orderingOf ordering-back
+one-ordering = fixed ofOrdering orderingFrom ordering-back
 
-spotOf : Spot → Searched
-spotOf (foundAt p) = searched.Found p
-spotOf (placeAt p) = searched.Place p
+spotFrom : Spot → Searched
+spotFrom (foundAt p) = searched.Found p
+spotFrom (placeAt p) = searched.Place p
 
-searchedOf : Look Spot → Searched
-searchedOf = bySight spotOf searched.Refused
+searchedFrom : Look Spot → Searched
+searchedFrom = bySight spotFrom searched.Refused
 
-searched-back : (a : Searched) → searchedOf (ofSearched a) ≡ a
-unfolding searchedOf spotOf
+searched-back : (a : Searched) → searchedFrom (ofSearched a) ≡ a
+unfolding searchedFrom spotFrom
 searched-back (searched.Found p) = refl
 searched-back (searched.Place p) = refl
 searched-back (searched.Refused x) = ap searched.Refused (named-back x)
 
 pub one-searched : (a b : Searched) → ofSearched a ≡ ofSearched b → a ≡ b
-one-searched = fixed ofSearched searchedOf searched-back
+one-searched = fixed ofSearched searchedFrom searched-back
 
-pointOf : Look ℕ → Point
-pointOf = bySight point.At point.Refused
+pointFrom : Look ℕ → Point
+pointFrom = bySight point.At point.Refused
 
-point-back : (a : Point) → pointOf (ofPoint a) ≡ a
-unfolding pointOf
+point-back : (a : Point) → pointFrom (ofPoint a) ≡ a
+unfolding pointFrom
 point-back (point.At p) = refl
 point-back (point.Refused x) = ap point.Refused (named-back x)
 
 pub one-point : (a b : Point) → ofPoint a ≡ ofPoint b → a ≡ b
-one-point = fixed ofPoint pointOf point-back
+one-point = fixed ofPoint pointFrom point-back
 
-writtenOf : Look ℕ → Written
-writtenOf = bySight written.Bytes written.Refused
+writtenFrom : Look ℕ → Written
+writtenFrom = bySight written.Bytes written.Refused
 
-written-back : (a : Written) → writtenOf (ofWritten a) ≡ a
-unfolding writtenOf
+written-back : (a : Written) → writtenFrom (ofWritten a) ≡ a
+unfolding writtenFrom
 written-back (written.Bytes n) = refl
 written-back (written.Refused x) = ap written.Refused (named-back x)
 
 pub one-written : (a b : Written) → ofWritten a ≡ ofWritten b → a ≡ b
-one-written = fixed ofWritten writtenOf written-back
+one-written = fixed ofWritten writtenFrom written-back
