@@ -1,6 +1,5 @@
 -- A journal's record as it is read: it is fixed by what is said of it (see queue/proofs/Fixed). Assumes nothing.
 use mathlib.Core.Path.{_≡_, refl, ap}
-use Prim.Native.Nat.{ℕ}
 use Rattle.journals.specs.Records.{entryFor, ofRecord}
 use Rattle.queue.proofs.Fixed.{fixed}
 use Rattle.rules.specs.Journals.{Entry, doPushBack, doPushFront, doPopFront, doPopBack, doDrain, doTruncate, doTruncateFront, doInsert, doRemove, Got, taken, broken, cut, ended}

@@ -5,7 +5,6 @@ use mathlib.Core.Option.{Option, none, some}
 use mathlib.Core.Path.{_≡_, refl}
 use Prim.Native.Nat.{ℕ}
 use Rattle.conditions.specs.Tests.{testOf}
-use Rattle.conditions.specs.declared.Test.{Test as Tested}
 use Rattle.conditions.specs.declared.Test.the-variants.{Below, AtLeast, Equal, NotEqual}
 use Rattle.queue.proofs.Fixed.{fixed}
 use Rattle.replies.specs.InC.{Said}

@@ -17,7 +17,7 @@ use Rattle.rules.specs.Outcome.{State, Outcome, shut, draining, unchange
 use Rattle.rules.specs.Pairs.{PairOutcome, onAppending, appended, crossing, doAppend, onSplitting, splitted, doSplit}
 use Rattle.rules.specs.Records.{Rec}
 use Rattle.rules.specs.Refusals.{onSlots, onLayout, room, onTaking}
-use Rattle.rules.specs.Sequences.{Queue, Pair, CallStep, Call, Taken, stillStep, lookStep, oneStep, bothStep, queueOf, pairOf, QueueCall, changing, asking, QueueChange, op, freshly, reading, opening, DrainCall, next, nextBack, close, PairCall, appending, splitting, comparing, madeOr, doMake, doOnQueue, doOnDrain, queueStep, pairStep, takenStep, firstStep, Side, sideA, sideB, Turn, facing, step, stands}
+use Rattle.rules.specs.Sequences.{Queue, Pair, CallStep, Call, stillStep, lookStep, oneStep, bothStep, queueOf, pairOf, QueueCall, changing, asking, QueueChange, op, freshly, reading, opening, DrainCall, next, nextBack, close, PairCall, appending, splitting, comparing, madeOr, doMake, doOnQueue, doOnDrain, queueStep, pairStep, takenStep, firstStep, Side, sideA, sideB, Turn, facing, step}
 
 -- ---- one queue: refused, its outcome is that of a call that does nothing
 
