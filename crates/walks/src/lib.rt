@@ -119,7 +119,7 @@ impl<'a> Iterator<'a> {
     {
         let w = Walk {
             queue: self.queue,
-            low: self.low,
+            low: self.low, // here stands what it gives
             high: self.high,
         };
         IteratorStep {
@@ -137,7 +137,7 @@ impl<'a> Iterator<'a> {
         let w = Walk {
             queue: self.queue,
             low: self.low,
-            high: self.high,
+            high: self.high, // before this stands what it gives
         };
         IteratorStep {
             slots: self.slots,
@@ -151,12 +151,12 @@ impl<'a> IteratorStep<'a> {
     pub fn rest(self) -> Iterator<'a>
         ensures { λ r. ⌜ (r .slots ≡ self .entry .slots) × (iteratorWalk r ≡ ofStepped (self .entry .step) .walk) ⌝ }
     {
-        let w = walk_after(self.step);
+        let walk = walk_after(self.step);
         Iterator {
             slots: self.slots,
-            queue: w.queue,
-            low: w.low,
-            high: w.high,
+            queue: walk.queue,
+            low: walk.low,
+            high: walk.high,
         }
     }
 }

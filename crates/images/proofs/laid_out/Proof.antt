@@ -25,20 +25,20 @@ two-at-requires : tie.Need-two-at-requires
 two-at-requires c κs = search needs
 
 returns-3 : tie.Need-returns-3
-returns-3 c = wrong-count _ (c .before .before .if2 .left) (λ e. c .if3 .taken (c .before .two-at .ensures ∙ e))
+returns-3 c = wrong-count _ (omega arith) (λ e. c .if3 .taken (c .before .two-at .ensures ∙ e))
 
 shared-slice-read-seen : tie.Need-shared-slice-read-seen
 shared-slice-read-seen c = search needs
 
 returns-4 : tie.Need-returns-4
-returns-4 c = wrong-version _ (c .before .before .before .before .if2 .left)
+returns-4 c = wrong-version _ (omega arith)
     (sym (c .before .before .before .two-at .ensures) ∙ c .before .before .if3 .left) (c .if4 .taken)
 
 most-short-requires : tie.Need-most-short-requires
 most-short-requires c κs = search needs
 
 returns-5 : tie.Need-returns-5
-returns-5 c = right _ (c .before .before .before .before .before .if2 .left)
+returns-5 c = right _ (omega arith)
     (sym (c .before .before .before .before .two-at .ensures) ∙ c .before .before .before .if3 .left) _
     (c .before .if4 .left) (c .most-short .ensures)
 
