@@ -1,5 +1,5 @@
-//! Every call at the edges of larger capacities: empty, one, half, one short, full; head first, second, middle and last;
-//! positions and ranges around the wrap and the end.
+//! Every call at the edges of larger capacities: empty, one, half, one short, full; head first, second, middle and
+//! last; positions and ranges around the wrap and the end.
 
 use crate::calls::{Call, Drain, Test};
 use crate::exhaustive::{Visit, new_values, planted};

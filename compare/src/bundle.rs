@@ -1,4 +1,5 @@
-//! The input of the program that runs many journals, and what it has to write: each journal behind its length, four bytes big-endian.
+//! The input of the program that runs many journals, and what it has to write: each journal behind its length, four
+//! bytes big-endian.
 
 use crate::journal::replay;
 use crate::journals::{Journal, record, stored};

@@ -40,7 +40,8 @@ struct Both {
 }
 
 impl Both {
-    /// Puts one call to both engines in the state `world`, and enters what they did. The state behind it is handed back.
+    /// Puts one call to both engines in the state `world`, and enters what they did. The state behind it is handed
+    /// back.
     fn put(&mut self, world: &World, q: usize, call: &Call) -> World {
         let called = Called::by_model(world, q, call);
         let given = put_to(&mut self.given, &called);

@@ -1,5 +1,5 @@
-//! A replay program of its own: journal bytes in, lines out, over std's VecDeque. Refusals, moved counts and the head are
-//! worked out here from document 01; nothing of the model is used.
+//! A replay program of its own: journal bytes in, lines out, over std's VecDeque. Refusals, moved counts and the head
+//! are worked out here from document 01; nothing of the model is used.
 
 use std::collections::VecDeque;
 use std::fmt::Write;

@@ -93,7 +93,8 @@ fn swap_remove_back(_: &Queue, list: &[u32], call: &Call) -> bool {
     list.get(*i).is_some_and(|&v| v != list[list.len() - 1])
 }
 
-/// The Rust writes the new elements where the old ones stood and then moves them on, out of slots that end up left over.
+/// The Rust writes the new elements where the old ones stood and then moves them on, out of slots that end up left
+/// over.
 fn splice(_: &Queue, list: &[u32], call: &Call) -> bool {
     let Call::Splice(start, end, new) = call else { return false };
     let (r, d, t) = (new.len(), end - start, list.len() - end);

@@ -111,7 +111,8 @@ fn write_journals(dir: &str) -> bool {
     wrong == 0
 }
 
-/// Writes the input and the output of the program that runs many journals, and tells at which line of the output each journal begins.
+/// Writes the input and the output of the program that runs many journals, and tells at which line of the output each
+/// journal begins.
 fn write_bundle(input: &str, output: &str) -> bool {
     let bundle = bundle::bundle();
     fs::write(input, &bundle.input).expect("the input can be written");

@@ -1,4 +1,5 @@
-//! The twelve marked examples of document 01 and the example of the trial script, by the oracle: the model and both Rusts.
+//! The twelve marked examples of document 01 and the example of the trial script, by the oracle: the model and both
+//! Rusts.
 
 use compare::oracle::tell;
 

@@ -1,8 +1,8 @@
 #!/bin/sh
 # build.sh RUST: makes src/ here from the given text of vec_deque 1.97.0 under RUST and from shim/, so that it builds as
-# a crate of its own on the installed rustc. The given files are only read. Whole-line stability and rustc attributes go,
-# the inline '#[unstable(..)] ' before a generic parameter goes, and one line, 'pub mod inspect;', is appended to mod.rs.
-# Nothing else of the text changes.
+# a crate of its own on the installed rustc. The given files are only read. Whole-line stability and rustc attributes
+# go, the inline '#[unstable(..)] ' before a generic parameter goes, and one line, 'pub mod inspect;', is appended to
+# mod.rs. Nothing else of the text changes.
 set -eu
 here=$(cd "$(dirname "$0")" && pwd)
 given=$1/library/alloc/src/collections/vec_deque

@@ -27,7 +27,8 @@ pub fn records(cap: usize) -> impl Iterator<Item = (usize, usize)> {
     (0..=cap).flat_map(move |len| (0..cap.max(1)).map(move |head| (head, len)))
 }
 
-/// Everything about capacity cap, B having two slots; then the calls on two queues with every capacity up to cap beside it.
+/// Everything about capacity cap, B having two slots; then the calls on two queues with every capacity up to cap beside
+/// it.
 pub fn each(cap: usize, visit: &mut Visit) {
     for (head, len) in records(cap) {
         let world = planted(cap, head, len);

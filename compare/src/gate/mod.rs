@@ -68,7 +68,8 @@ fn examples(gate: &mut Stream) {
     gate.put(&world, 0, &Call::ImageWrite(12));
 }
 
-/// Searches for one of several equal elements, sorted and not, straight and wrapped, where the Rust may answer otherwise.
+/// Searches for one of several equal elements, sorted and not, straight and wrapped, where the Rust may answer
+/// otherwise.
 fn searches(gate: &mut Stream) {
     for head in [0, 3, 5, 7] {
         for list in [[1, 2, 2, 2, 3], [2, 2, 2, 2, 2], [1, 1, 2, 3, 3], [3, 1, 2, 1, 3], [2, 0, 2, 4, 1]] {

@@ -28,7 +28,8 @@ fn filled(whole: &[u8], length: u16) -> Vec<u8> {
     bytes
 }
 
-/// A length too small, too large or of another operation; another version; an unknown operation; a record cut after each of its bytes; bytes behind.
+/// A length too small, too large or of another operation; another version; an unknown operation; a record cut after
+/// each of its bytes; bytes behind.
 pub fn each_way(add: &mut Add) {
     for (operation, operands) in KINDS {
         let whole = record(operation, operands);

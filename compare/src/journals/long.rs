@@ -8,7 +8,8 @@ pub fn three_turns() -> Vec<u8> {
     [from_behind(), from_the_front(), every_distance()].concat()
 }
 
-/// As many pushes as there are slots and one more, which is refused; then what a full queue refuses and what it doesn't.
+/// As many pushes as there are slots and one more, which is refused; then what a full queue refuses and what it
+/// doesn't.
 fn too_many(push: u8) -> Vec<u8> {
     let mut bytes: Vec<u8> = (1..=SLOTS + 1).flat_map(|v| record(push, &[v])).collect();
     bytes.extend(journal(&[(3 - push, &[1]), (8, &[0, 1]), (8, &[8_000, 1]), (8, &[SLOTS, 1])]));
@@ -17,7 +18,8 @@ fn too_many(push: u8) -> Vec<u8> {
     bytes
 }
 
-/// Filled by push_back, from the last slots on; emptied by pops at both ends, by truncations and by drains, the last of which empties it.
+/// Filled by push_back, from the last slots on; emptied by pops at both ends, by truncations and by drains, the last of
+/// which empties it.
 fn from_behind() -> Vec<u8> {
     let mut bytes = journal(&[(2, &[1]), (2, &[2]), (2, &[3]), (6, &[0])]);
     bytes.extend(too_many(1));
@@ -29,7 +31,8 @@ fn from_behind() -> Vec<u8> {
     bytes
 }
 
-/// Filled by push_front, with head in the middle of the slots; emptied by pops and truncations, which leave head where it came to stand.
+/// Filled by push_front, with head in the middle of the slots; emptied by pops and truncations, which leave head where
+/// it came to stand.
 fn from_the_front() -> Vec<u8> {
     let mut bytes: Vec<u8> = record(1, &[1]).repeat(6_000);
     bytes.extend(record(7, &[0]));
@@ -39,9 +42,9 @@ fn from_the_front() -> Vec<u8> {
     bytes
 }
 
-/// Filled at both ends by turns. An element is removed at every distance from the front and one inserted as far from the end, so that head
-/// goes on around the slots; at every fifth distance also the other way round. Then one is drained at every distance, from the front and from
-/// the end by turns, and the rest at once.
+/// Filled at both ends by turns. An element is removed at every distance from the front and one inserted as far from
+/// the end, so that head goes on around the slots; at every fifth distance also the other way round. Then one is
+/// drained at every distance, from the front and from the end by turns, and the rest at once.
 fn every_distance() -> Vec<u8> {
     let mut bytes: Vec<u8> = (1..=SLOTS).flat_map(|v| record(if v % 3 == 0 { 2 } else { 1 }, &[v])).collect();
     for d in 0..=SLOTS / 2 {

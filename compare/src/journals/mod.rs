@@ -39,7 +39,8 @@ fn collected(make: impl Fn(&mut Add)) -> Vec<Journal> {
     all
 }
 
-/// The journals of the gate, kept in the repository: each operation, each edge, each way to be broken, three turns of the slots.
+/// The journals of the gate, kept in the repository: each operation, each edge, each way to be broken, three turns of
+/// the slots.
 pub fn stored() -> Vec<Journal> {
     collected(|add| {
         add("empty", vec![]);

@@ -1,5 +1,5 @@
-//! Document 01 as plain Rust: a queue is a list laid into slots from head on, and each call turns one list into another.
-//! Nothing here looks at Rust's VecDeque.
+//! Document 01 as plain Rust: a queue is a list laid into slots from head on, and each call turns one list into
+//! another. Nothing here looks at Rust's VecDeque.
 
 mod drain;
 mod image;

@@ -15,7 +15,8 @@ fn halve(run: &[u32], mut less: impl FnMut(u32) -> bool) -> usize {
     low
 }
 
-/// The run in which the halving goes on, and how many elements stand before it; None if the back run begins with a match.
+/// The run in which the halving goes on, and how many elements stand before it; None if the back run begins with a
+/// match.
 pub fn searched_run(cap: usize, head: usize, list: &[u32], look: impl Fn(u32) -> Ordering) -> (usize, Option<&[u32]>) {
     let [a, b, _, _] = runs(cap, head, 0, list.len());
     let (front, back) = list.split_at(b - a);

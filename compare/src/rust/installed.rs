@@ -1,4 +1,5 @@
-//! std's VecDeque of the installed toolchain. Its state is set by public calls alone and read from where its slices stand.
+//! std's VecDeque of the installed toolchain. Its state is set by public calls alone and read from where its slices
+//! stand.
 
 use super::{Engine, Step, calls_of_the_rust};
 use crate::calls::{Call, Drain};

@@ -1,6 +1,6 @@
-// A first program over the queue: parks instance numbers, takes
-// a settled stretch out of the middle, and prints what is left.
-// It names `vec_deque` alone, beside the kit's `io` and `libc` to print.
+// A first program over the queue: parks instance numbers, takes a
+// settled stretch out of the middle, and prints what is left.
+use libc::STDERR_FILENO;
 use libc::STDOUT_FILENO;
 use vec_deque::Change;
 use vec_deque::Closed;
@@ -11,44 +11,35 @@ use vec_deque::Found;
 use vec_deque::Made;
 use vec_deque::Opened;
 
-// Prints a number after a space.
-fn print_number(number: u32) {
-    io::write_all(STDOUT_FILENO, b" ");
-    io::print_decimal(STDOUT_FILENO, number as u64);
-}
-
-// Prints every element of the queue, front to back.
-fn print_queue(slots: &[u32], queue: Deque) {
-    for i in 0..queue.len {
-        if let Found::Number(number) = vec_deque::get(slots, queue, i) {
-            print_number(number);
+// Parks a number behind the queue, and gives the record back that the call left.
+// A full queue refuses: the record is the same, and nothing was written.
+fn park(slots: &mut [u32], queue: Deque, number: u32) -> Deque {
+    match vec_deque::push_back(slots, queue, number) {
+        Change::Done { queue, moved: _ } => queue,
+        Change::Refused {
+            refusal: _,
+            queue,
+            moved: _,
+        } => {
+            io::write_all(STDERR_FILENO, b"newcomer: no room for one more\n");
+            queue
         }
     }
+}
+
+// Says that a call was refused, after which there is nothing to go on with.
+fn stop() {
+    io::write_all(STDERR_FILENO, b"newcomer: a call was refused\n");
+}
+
+// Prints a name and a number on a line.
+fn print(name: &[u8], number: u64) {
+    io::write_all(STDOUT_FILENO, name);
+    io::print_decimal(STDOUT_FILENO, number);
     io::write_all(STDOUT_FILENO, b"\n");
 }
 
-// Parks 10, 20, .. up to so many numbers behind the queue, and
-// gives the record back. A full queue refuses and stays as it is.
-fn park(slots: &mut [u32], queue: Deque, count: u32) -> Deque {
-    let mut parked = queue;
-    for i in 0..count {
-        match vec_deque::push_back(slots, parked, i % 1000 * 10 + 10) {
-            Change::Done { queue, moved: _ } => {
-                parked = queue;
-            }
-            Change::Refused {
-                refusal: _,
-                queue: _,
-                moved: _,
-            } => {
-                io::write_all(STDOUT_FILENO, b"no room for one more\n");
-            }
-        }
-    }
-    parked
-}
-
-// Hands over and prints every element of an open drain, and gives the drain back.
+// Hands over and prints every element of an open drain, and gives the drain's record back.
 fn settle(slots: &[u32], drain: Drain) -> Drain {
     let mut open = drain;
     for _ in 0..drain.remaining {
@@ -57,33 +48,40 @@ fn settle(slots: &[u32], drain: Drain) -> Drain {
             drain,
             moved: _,
         } = vec_deque::drain_next(slots, open) {
-            print_number(number);
+            print(b"settled: ", number as u64);
             open = drain;
         }
     }
-    io::write_all(STDOUT_FILENO, b"\n");
     open
 }
 
 fn main() {
-    let mut slots = [0u32; 6];
+    // The caller's slots: their number is the capacity.
+    let mut slots = [0u32; 5];
     let Made::Done { queue, moved: _ } = vec_deque::fresh(&slots) else {
-        return;
+        return stop();
     };
-    let queue = park(&mut slots, queue, 7);
-    io::write_all(STDOUT_FILENO, b"parked:");
-    print_queue(&slots, queue);
+    // Each call is given the record that the last one left. The sixth finds no room.
+    let queue = park(&mut slots, queue, 10);
+    let queue = park(&mut slots, queue, 20);
+    let queue = park(&mut slots, queue, 30);
+    let queue = park(&mut slots, queue, 40);
+    let queue = park(&mut slots, queue, 50);
+    let queue = park(&mut slots, queue, 60);
+    // Takes positions 1 and 2 out: 20 and 30. The shorter side moves: 10, which stands before them.
     let Opened::Done { drain, moved: _ } = vec_deque::drain(&slots, queue, 1, 3) else {
-        return;
+        return stop();
     };
-    io::write_all(STDOUT_FILENO, b"settled:");
     let drain = settle(&slots, drain);
     let Closed::Done { queue, moved } = vec_deque::drain_close(&mut slots, drain) else {
-        return;
+        return stop();
     };
-    io::write_all(STDOUT_FILENO, b"left:");
-    print_queue(&slots, queue);
-    io::write_all(STDOUT_FILENO, b"moved: ");
-    io::print_decimal(STDOUT_FILENO, moved as u64);
-    io::write_all(STDOUT_FILENO, b"\n");
+    print(b"left: ", queue.len as u64);
+    print(b"moved: ", moved as u64);
+    if let Found::Number(number) = vec_deque::front(&slots, queue) {
+        print(b"first: ", number as u64);
+    }
+    if let Found::Number(number) = vec_deque::back(&slots, queue) {
+        print(b"last: ", number as u64);
+    }
 }

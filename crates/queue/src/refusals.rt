@@ -11,7 +11,8 @@ ghost use Rattle.queue.specs.Answers.{recOf, numberIn};
 ghost use Rattle.queue.specs.Drains.{drainOf};
 ghost use Rattle.queue.specs.Looks.{walkOf};
 
-// Document 01's refusals, 1 to 5 in this order.
+// Why a call is refused, by its number from 1 on: too many slots, a record that is not good,
+// a position past the end, no room, bytes that are no image.
 pub enum Refusal {
     Slots,
     Record,

@@ -1,7 +1,11 @@
 // The face: every public item that a user of the queue names. Each call takes the
 // lent slots, the record by value and its operands, and refuses what can't be met.
+//
+// A call that can change the queue answers with its new record. The record from before
+// is stale then: it is still taken, since it is a good one, and nothing warns.
 
-// The record, its place, the answers and the refusals.
+// The record, its place, the answers and the refusals: 1 too many slots, 2 a record that is not
+// good, 3 a position, 4 no room, 5 bytes that are no image. A refused call writes nothing.
 pub use elements::Found;
 pub use elements::Handed;
 pub use elements::fresh;
@@ -38,7 +42,7 @@ pub use middle::insert;
 pub use middle::remove;
 pub use retains::retain;
 
-// Lent slices and other queues.
+// Lent slices, and other queues, whose slots and records are given beside ours.
 pub use extends::extend;
 pub use extends::extend_front;
 pub use extends::prepend;
@@ -48,7 +52,7 @@ pub use joins::split_off;
 pub use queue::Joined;
 pub use queue::Split;
 
-// Drains and splices.
+// Drains and splices. An open drain stands for its queue: it is closed before the queue's next call.
 pub use drains::drain;
 pub use drains::drain_close;
 pub use drains::drain_next;
@@ -59,7 +63,7 @@ pub use queue::Drain;
 pub use queue::Opened;
 pub use splices::splice;
 
-// The two runs of a range.
+// The two runs of a range: the slots in which it stands.
 pub use queue::Ranges;
 pub use queue::Span;
 pub use runs::back_run;

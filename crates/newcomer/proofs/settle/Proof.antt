@@ -21,8 +21,14 @@ drain-next-requires c κs = search needs
 enum-known-number : tie.Need-enum-known-number Inv-loop μ-loop
 enum-known-number c = search needs
 
-print-number-requires : tie.Need-print-number-requires Inv-loop μ-loop
-print-number-requires c κs = search needs
+slice-aggregate-print : tie.Need-slice-aggregate-print Inv-loop μ-loop
+slice-aggregate-print c = search needs
+
+cast-print : tie.Need-cast-print Inv-loop μ-loop
+cast-print c = search needs
+
+print-requires : tie.Need-print-requires Inv-loop μ-loop
+print-requires c κs = search needs
 
 add-counter : tie.Need-add-counter Inv-loop μ-loop
 add-counter c = search needs
@@ -32,12 +38,6 @@ loop-less c = search needs
 
 loop-again : tie.Need-loop-again Inv-loop μ-loop
 loop-again c = search needs
-
-slice-aggregate-write-all : tie.Need-slice-aggregate-write-all Inv-loop μ-loop
-slice-aggregate-write-all c = search needs
-
-write-all-requires : tie.Need-write-all-requires Inv-loop μ-loop
-write-all-requires c κs = search needs
 
 returns : tie.Need-returns Inv-loop μ-loop
 returns c = search needs
@@ -51,10 +51,10 @@ settle-spec =
     loop-holds
     drain-next-requires
     enum-known-number
-    print-number-requires
+    slice-aggregate-print
+    cast-print
+    print-requires
     add-counter
     loop-less
     loop-again
-    slice-aggregate-write-all
-    write-all-requires
     returns)

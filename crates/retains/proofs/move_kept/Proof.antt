@@ -1,4 +1,5 @@
--- `retains::move_kept` meets its contract. The loop's invariant: what is left to be stored gives the slots and the count in the end. Assumes nothing.
+-- `retains::move_kept` meets its contract. The loop's invariant: what is left
+-- to be stored gives the slots and the count in the end. Assumes nothing.
 use mathlib.Core.Path.{_≡_, refl}
 use Prim.Native.Nat.{_<_, _≤_}
 use native.Mathlib.Omega.{arith}
