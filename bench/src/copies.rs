@@ -25,7 +25,8 @@ const ALIGNMENTS: std::ops::Range<usize> = 0..8;
 const AIM: f64 = 1.05;
 const AIMED: usize = 100;
 
-/// `ptr::copy`, so many times over, in the same kind of loop as the proved copy's: with nothing between two copies, since the second may have to wait for the first.
+/// `ptr::copy`, so many times over, in the same kind of loop as the proved copy's: with nothing between two copies,
+/// since the second may have to wait for the first.
 #[inline(never)]
 fn pointer_copies(slots: &mut [u32], src: usize, dst: usize, n: usize, times: u32) {
     assert!(src + n <= slots.len() && dst + n <= slots.len());
@@ -42,7 +43,8 @@ fn called_copy(slots: &mut [u32], src: usize, dst: usize, n: usize) {
     slots.copy_within(src..src + n, dst);
 }
 
-/// The times of a copy: the proved one's and `ptr::copy`'s, each in a loop of its own; then one copy a call, the proved one's and std's.
+/// The times of a copy: the proved one's and `ptr::copy`'s, each in a loop of its own; then one copy a call, the proved
+/// one's and std's.
 #[derive(Clone, Copy)]
 struct Times {
     proved: f64,
@@ -101,9 +103,15 @@ fn worst(n: usize, pairs: impl Iterator<Item = (usize, usize)>) -> Times {
 
 /// Prints the worst ratio of every overlap and alignment.
 pub fn print() {
-    println!("A straight copy beside `ptr::copy`, each in a loop of its own: the worst of 8 alignments, 6 distances and both directions. Behind it the same copy once a call: the exported one, and `copy_within` in a function that is not inlined.");
+    println!(
+        "A straight copy beside `ptr::copy`, each in a loop of its own: the worst of 8 alignments, 6 distances and \
+         both directions. Behind it the same copy once a call: the exported one, and `copy_within` in a function that \
+         is not inlined."
+    );
     println!();
-    println!("| n | proved ns | ptr::copy ns | ratio | from | to | proved, called, ns | copy_within, called, ns | ratio |");
+    println!(
+        "| n | proved ns | ptr::copy ns | ratio | from | to | proved, called, ns | copy_within, called, ns | ratio |"
+    );
     println!("|---:|---:|---:|---:|---:|---:|---:|---:|---:|");
     for n in LENGTHS {
         let pairs = ALIGNMENTS.flat_map(|a| DISTANCES.into_iter().flat_map(move |d| [(a, a + d), (a + d, a)]));

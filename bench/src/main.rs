@@ -1,5 +1,5 @@
-//! Times the proved queue beside Rust's VecDeque: `sh run.sh` in this folder makes the archive, builds this program and runs it.
-//! Every figure is the fastest of several rounds; the rounds of the two sides alternate.
+//! Times the proved queue beside Rust's VecDeque: `sh run.sh` in this folder makes the archive, builds this program
+//! and runs it. Every figure is the fastest of several rounds; the rounds of the two sides alternate.
 #![feature(deque_extend_front, vec_deque_truncate_front)]
 mod copies;
 mod places;
@@ -75,10 +75,10 @@ fn print_calls() {
     }
 }
 
-/// Whether a figure falls short of its aim: 1.1 of std's for calls that move elements, from 1,000 on; 2 for push, pop and get.
+/// Whether a figure falls short of its aim. Where the elements count, the aim is for 1,000 of them and more.
 fn falls_short(work: Work, n: usize, t: &Times) -> bool {
-    let ratio = t.proved / t.called;
-    (work.moves() && n >= 1_000 && ratio > 1.1) || (work.is_small() && ratio > 2.0)
+    let counts = n >= 1_000 || work.is_small();
+    work.aim().is_some_and(|aim| counts && t.proved / t.called > aim)
 }
 
 /// Prints the tables that are asked for by name, or all.
@@ -101,8 +101,17 @@ fn main() {
 /// The machine and the versions.
 fn machine() -> String {
     let cpu = std::fs::read_to_string("/proc/cpuinfo").unwrap_or_default();
-    let model = cpu.lines().find_map(|l| l.strip_prefix("model name")).map_or("unknown", |l| l.trim_start_matches([' ', '\t', ':']));
-    format!("Machine: {} ({}). Rust: {}. Kit: {}.", std::env::consts::ARCH, model, env!("BENCH_RUSTC"), env!("BENCH_KIT"))
+    let model = cpu
+        .lines()
+        .find_map(|l| l.strip_prefix("model name"))
+        .map_or("unknown", |l| l.trim_start_matches([' ', '\t', ':']));
+    format!(
+        "Machine: {} ({}). Rust: {}. Kit: {}.",
+        std::env::consts::ARCH,
+        model,
+        env!("BENCH_RUSTC"),
+        env!("BENCH_KIT")
+    )
 }
 
 impl<Q: Queue> State<Q> {

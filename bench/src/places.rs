@@ -1,5 +1,5 @@
-//! Where the benchmark's memory lies: every block but the smallest begins at a page. A copy's time depends on where its two ends lie in their pages, so both sides are to
-//! have theirs at the same places.
+//! Where the benchmark's memory lies: every block but the smallest begins at a page. A copy's time depends on where its
+//! two ends lie in their pages, so both sides are to have theirs at the same places.
 use std::alloc::{GlobalAlloc, Layout, System};
 
 const PAGE: usize = 4096;

@@ -14,7 +14,8 @@ const REFUSED: &str = "refused";
 impl Queue for Proved {
     fn starting_at(cap: usize, head: usize) -> Self {
         let slots = vec![0; cap].leak();
-        Proved { queue: scorebucket::Queue::with_record(slots, Record { head, len: 0 }), target: vec![0; cap] }
+        let queue = scorebucket::Queue::with_record(slots, Record { head, len: 0 }).expect(REFUSED);
+        Proved { queue, target: vec![0; cap] }
     }
     fn push_back(&mut self, v: u32) {
         self.queue.push_back(v).expect(REFUSED)
@@ -23,22 +24,22 @@ impl Queue for Proved {
         self.queue.push_front(v).expect(REFUSED)
     }
     fn pop_front(&mut self) -> Option<u32> {
-        self.queue.pop_front().expect(REFUSED)
+        self.queue.pop_front()
     }
     fn pop_back(&mut self) -> Option<u32> {
-        self.queue.pop_back().expect(REFUSED)
+        self.queue.pop_back()
     }
     fn get(&self, i: usize) -> Option<u32> {
-        self.queue.get(i).expect(REFUSED)
+        self.queue.get(i)
     }
     fn insert(&mut self, i: usize, v: u32) {
         self.queue.insert(i, v).expect(REFUSED)
     }
     fn remove(&mut self, i: usize) -> Option<u32> {
-        self.queue.remove(i).expect(REFUSED)
+        self.queue.remove(i)
     }
     fn truncate(&mut self, n: usize) {
-        self.queue.truncate(n).expect(REFUSED)
+        self.queue.truncate(n)
     }
     fn extend(&mut self, values: &[u32]) {
         self.queue.extend(values).expect(REFUSED)
@@ -47,7 +48,7 @@ impl Queue for Proved {
         self.queue.prepend(values).expect(REFUSED)
     }
     fn truncate_front(&mut self, n: usize) {
-        self.queue.truncate_front(n).expect(REFUSED)
+        self.queue.truncate_front(n)
     }
     fn extend_front(&mut self, values: &[u32]) {
         self.queue.extend_front(values).expect(REFUSED)
@@ -69,18 +70,35 @@ impl Queue for Proved {
         self.queue.splice(start..end, values).expect(REFUSED)
     }
     fn retain_below(&mut self, k: u32) {
-        self.queue.retain(Test::Below(k)).expect(REFUSED)
+        self.queue.retain(Test::Below(k))
+    }
+    fn sum(&self) -> u32 {
+        self.queue.iter().fold(0, u32::wrapping_add)
+    }
+    fn sum_by_steps(&self) -> u32 {
+        let mut sum = 0u32;
+        for x in &self.queue {
+            sum = sum.wrapping_add(x);
+        }
+        sum
+    }
+    fn drain_sum(&mut self) -> u32 {
+        let mut sum = 0u32;
+        for x in self.queue.drain(..).expect(REFUSED) {
+            sum = sum.wrapping_add(x);
+        }
+        sum
     }
     fn contains(&self, x: u32) -> bool {
-        self.queue.contains(x).expect(REFUSED)
+        self.queue.contains(x)
     }
     fn equals(&self, other: &Self) -> bool {
-        self.queue.eq(&other.queue).expect(REFUSED)
+        self.queue == other.queue
     }
     fn is_less(&self, other: &Self) -> bool {
-        self.queue.cmp(&other.queue).expect(REFUSED).is_lt()
+        self.queue < other.queue
     }
     fn find(&self, x: u32) -> bool {
-        self.queue.binary_search(x).expect(REFUSED).is_ok()
+        self.queue.binary_search(x).is_ok()
     }
 }

@@ -23,6 +23,12 @@ pub trait Queue {
     fn drain(&mut self, start: usize, end: usize);
     fn splice(&mut self, start: usize, end: usize, values: &[u32]);
     fn retain_below(&mut self, k: u32);
+    /// The sum of its elements, by the iterator's own loop.
+    fn sum(&self) -> u32;
+    /// The same, step by step.
+    fn sum_by_steps(&self) -> u32;
+    /// Drains all elements, step by step, and gives their sum.
+    fn drain_sum(&mut self) -> u32;
     fn contains(&self, x: u32) -> bool;
     fn equals(&self, other: &Self) -> bool;
     fn is_less(&self, other: &Self) -> bool;

@@ -1,27 +1,27 @@
 //! What a refused call costs: it grows with nothing.
 use crate::timing;
-use scorebucket::{Queue, Record, Refusal, Test};
+use scorebucket::{Queue, Record, Refusal};
 
-/// What a refused call is made on: full queues that run round the end, one with a record that is not good, slots, and bytes that hold no image.
+/// What a refused call is made on: full queues that run round the end, slots, and bytes that hold no image.
 struct Lent {
     full: Queue<'static>,
     other: Queue<'static>,
-    bad: Queue<'static>,
     slots: Vec<u32>,
     bytes: Vec<u8>,
 }
 
 impl Lent {
     fn of(cap: usize) -> Lent {
-        let over = |head| Queue::with_record(vec![7; cap].leak(), Record { head, len: cap });
-        Lent { full: over(cap / 2), other: over(cap / 2), bad: over(cap), slots: vec![7; cap], bytes: vec![7; 3 + 4 * cap] }
+        let record = Record { head: cap / 2, len: cap };
+        let full = || Queue::with_record(vec![7; cap].leak(), record).expect("the record is good");
+        Lent { full: full(), other: full(), slots: vec![7; cap], bytes: vec![7; 3 + 4 * cap] }
     }
 }
 
 /// A refused call: its name, the refusal that is meant, and the call.
 type RefusedCall = (&'static str, Refusal, fn(&mut Lent) -> Option<Refusal>);
 
-const CALLS: [RefusedCall; 16] = [
+const CALLS: [RefusedCall; 14] = [
     ("push_back, full", Refusal::Room, |l| l.full.push_back(1).err()),
     ("insert, full", Refusal::Room, |l| l.full.insert(l.full.len() / 2, 1).err()),
     ("extend by 100, full", Refusal::Room, |l| l.full.extend(&[1; 100]).err()),
@@ -35,9 +35,10 @@ const CALLS: [RefusedCall; 16] = [
     ("drain, past the end", Refusal::Position, |l| l.full.drain(1..l.full.len() + 1).err()),
     ("slices, past the end", Refusal::Position, |l| l.full.slices(1..l.full.len() + 1).err()),
     ("read_image, no image", Refusal::Image, |l| Queue::read_image(&mut l.slots, &l.bytes).err()),
-    ("retain, a bad record", Refusal::Record, |l| l.bad.retain(Test::Below(8)).err()),
-    ("contains, a bad record", Refusal::Record, |l| l.bad.contains(8).err()),
-    ("eq, a bad record", Refusal::Record, |l| l.full.eq(&l.bad).err()),
+    ("with_record, a bad one", Refusal::Record, |l| {
+        let head = l.slots.len();
+        Queue::with_record(&mut l.slots, Record { head, len: 0 }).err()
+    }),
 ];
 
 /// Prints the time of each kind of refused call, over few slots and over many.

@@ -1,5 +1,5 @@
-//! The installed toolchain's VecDeque, each call behind a function of its own, as a caller of the archive meets the proved one; and the same
-//! with every call inlined.
+//! The installed toolchain's VecDeque, each call behind a function of its own, as a caller of the archive meets the
+//! proved one; and the same with every call inlined.
 use crate::queue::Queue;
 use std::collections::VecDeque;
 
@@ -94,6 +94,26 @@ macro_rules! side {
             #[$inlining]
             fn retain_below(&mut self, k: u32) {
                 self.0.retain(|x| *x < k)
+            }
+            #[$inlining]
+            fn sum(&self) -> u32 {
+                self.0.iter().copied().fold(0, u32::wrapping_add)
+            }
+            #[$inlining]
+            fn sum_by_steps(&self) -> u32 {
+                let mut sum = 0u32;
+                for x in &self.0 {
+                    sum = sum.wrapping_add(*x);
+                }
+                sum
+            }
+            #[$inlining]
+            fn drain_sum(&mut self) -> u32 {
+                let mut sum = 0u32;
+                for x in self.0.drain(..) {
+                    sum = sum.wrapping_add(x);
+                }
+                sum
             }
             #[$inlining]
             fn contains(&self, x: u32) -> bool {

@@ -25,9 +25,10 @@ fn nanoseconds(turns: u32, work: &mut dyn FnMut(u32)) -> f64 {
     start.elapsed().as_nanos() as f64 / turns as f64
 }
 
-/// The nanoseconds that one turn of each work takes. The rounds of the works alternate, so that whatever slows the machine meets them all.
+/// The nanoseconds that one turn of each work takes. The rounds of the works alternate, so that whatever slows the
+/// machine meets them all.
 pub fn times(works: &mut [&mut dyn FnMut(u32)]) -> Vec<f64> {
-    let turns: Vec<u32> = works.iter_mut().map(|w| turns_of_a_round(|n| w(n))).collect();
+    let turns: Vec<u32> = works.iter_mut().map(turns_of_a_round).collect();
     let mut best = vec![f64::MAX; works.len()];
     for _ in 0..ROUNDS {
         for (i, work) in works.iter_mut().enumerate() {

@@ -7,10 +7,13 @@ pub enum Work {
     PushBackPopFront,
     PushFrontPopBack,
     GetAll,
+    Sum,
+    SumBySteps,
     InsertRemoveFront,
     InsertRemoveQuarter,
     InsertRemoveMiddle,
     DrainMiddle,
+    DrainAll,
     Extend,
     Prepend,
     ExtendFront,
@@ -28,14 +31,17 @@ pub enum Work {
 }
 
 impl Work {
-    pub const ALL: [Work; 21] = [
+    pub const ALL: [Work; 24] = [
         Work::PushBackPopFront,
         Work::PushFrontPopBack,
         Work::GetAll,
+        Work::Sum,
+        Work::SumBySteps,
         Work::InsertRemoveFront,
         Work::InsertRemoveQuarter,
         Work::InsertRemoveMiddle,
         Work::DrainMiddle,
+        Work::DrainAll,
         Work::Extend,
         Work::Prepend,
         Work::ExtendFront,
@@ -57,10 +63,13 @@ impl Work {
             Work::PushBackPopFront => "push_back, pop_front",
             Work::PushFrontPopBack => "push_front, pop_back",
             Work::GetAll => "get, every position",
+            Work::Sum => "iter, summed",
+            Work::SumBySteps => "for x in iter, summed",
             Work::InsertRemoveFront => "insert, remove at the front (none moves)",
             Work::InsertRemoveQuarter => "insert, remove at a quarter",
             Work::InsertRemoveMiddle => "insert, remove in the middle",
             Work::DrainMiddle => "drain n/8 in the middle, extend by n/8",
+            Work::DrainAll => "for x in drain(..), summed; extend by n",
             Work::Extend => "extend by n, truncate",
             Work::Prepend => "prepend n/2, truncate_front",
             Work::ExtendFront => "extend_front n/2, truncate_front",
@@ -78,19 +87,15 @@ impl Work {
         }
     }
 
-    /// Whether the calls move or copy elements, so that the aim is 1.1 of std's.
-    pub fn moves(self) -> bool {
-        !matches!(
-            self,
-            Work::PushBackPopFront
-                | Work::PushFrontPopBack
-                | Work::GetAll
-                | Work::InsertRemoveFront
-                | Work::Contains
-                | Work::Equality
-                | Work::Order
-                | Work::BinarySearch
-        )
+    /// The aim: no more than so much of std's time. Where there is none, the figure is stated only.
+    pub fn aim(self) -> Option<f64> {
+        match self {
+            Work::PushBackPopFront | Work::PushFrontPopBack | Work::GetAll | Work::InsertRemoveFront => Some(2.0),
+            Work::DrainAll => Some(1.5),
+            Work::Contains | Work::Equality | Work::Order | Work::BinarySearch => None,
+            // iterating, and whatever moves or copies elements
+            _ => Some(1.1),
+        }
     }
 
     /// Whether a call's own cost is what counts, so that the inlined std is shown too.
@@ -102,6 +107,7 @@ impl Work {
 /// A queue of `n` elements, another, and values to put in.
 pub struct State<Q> {
     n: usize,
+    wrapped: bool,
     queue: Q,
     other: Q,
     ascending: Vec<u32>,
@@ -132,7 +138,7 @@ impl<Q: Queue> State<Q> {
                 other.extend(&ascending);
             }
         }
-        State { n, queue, other, ascending, mixed }
+        State { n, wrapped, queue, other, ascending, mixed }
     }
 
     pub fn queue(&self) -> &Q {
@@ -162,6 +168,12 @@ impl<Q: Queue> State<Q> {
                 }
                 black_box(sum);
             }),
+            Work::Sum => times.for_each(|_| {
+                black_box(black_box(&*q).sum());
+            }),
+            Work::SumBySteps => times.for_each(|_| {
+                black_box(black_box(&*q).sum_by_steps());
+            }),
             Work::InsertRemoveFront => times.for_each(|v| insert_remove(q, 0, v)),
             Work::InsertRemoveQuarter => times.for_each(|v| insert_remove(q, n / 4, v)),
             Work::InsertRemoveMiddle => times.for_each(|v| insert_remove(q, n / 2, v)),
@@ -169,6 +181,14 @@ impl<Q: Queue> State<Q> {
                 let q = black_box(&mut *q);
                 q.drain(n / 2, n / 2 + n / 8);
                 q.extend(&values[0..n / 8]);
+            }),
+            Work::DrainAll => times.for_each(|_| {
+                let q = black_box(&mut *q);
+                black_box(q.drain_sum());
+                // a queue that is drained starts anew at the first slot: what is put in front runs round the end
+                let (front, back) = values.split_at(if self.wrapped { n / 2 } else { 0 });
+                q.extend(back);
+                q.prepend(front);
             }),
             Work::Extend => times.for_each(|_| {
                 let q = black_box(&mut *q);

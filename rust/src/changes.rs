@@ -1,181 +1,253 @@
 //! The calls that change a queue.
 use crate::raw::{self, Record};
 use crate::{Drain, Queue, Refusal, Test};
-use std::ops::RangeBounds;
+use core::ops::RangeBounds;
 
 impl<'a> Queue<'a> {
     /// Appends v.
+    ///
+    /// # Errors
+    ///
+    /// [`Refusal::Room`] (4) if every slot holds an element.
     #[inline]
     pub fn push_back(&mut self, v: u32) -> Result<(), Refusal> {
-        let reply = raw::push_back(self.slots, &mut self.record, v);
-        self.take_change(reply)
+        let (slots, kept) = self.lent.change();
+        let reply = raw::push_back(slots, &mut kept.record, v);
+        kept.take_change(reply)
     }
 
     /// Puts v in front.
+    ///
+    /// # Errors
+    ///
+    /// [`Refusal::Room`] (4) if every slot holds an element.
     #[inline]
     pub fn push_front(&mut self, v: u32) -> Result<(), Refusal> {
-        let reply = raw::push_front(self.slots, &mut self.record, v);
-        self.take_change(reply)
+        let (slots, kept) = self.lent.change();
+        let reply = raw::push_front(slots, &mut kept.record, v);
+        kept.take_change(reply)
     }
 
-    /// Hands the first element over.
+    /// Hands the first element over, or `None` of an empty queue.
     #[inline]
-    pub fn pop_front(&mut self) -> Result<Option<u32>, Refusal> {
-        let reply = raw::pop_front(self.slots, &mut self.record);
-        self.take(reply)
+    pub fn pop_front(&mut self) -> Option<u32> {
+        let (slots, kept) = self.lent.change();
+        let reply = raw::pop_front(slots, &mut kept.record);
+        kept.take(reply)
     }
 
-    /// Hands the last element over.
+    /// Hands the last element over, or `None` of an empty queue.
     #[inline]
-    pub fn pop_back(&mut self) -> Result<Option<u32>, Refusal> {
-        let reply = raw::pop_back(self.slots, &mut self.record);
-        self.take(reply)
+    pub fn pop_back(&mut self) -> Option<u32> {
+        let (slots, kept) = self.lent.change();
+        let reply = raw::pop_back(slots, &mut kept.record);
+        kept.take(reply)
     }
 
-    /// Hands the first element over, if it meets the test.
+    /// Hands the first element over if it meets the test; else `None`, and it stays.
     #[inline]
-    pub fn pop_front_if(&mut self, test: Test) -> Result<Option<u32>, Refusal> {
+    pub fn pop_front_if(&mut self, test: Test) -> Option<u32> {
         let (kind, k) = test.numbers();
-        let reply = raw::pop_front_if(self.slots, &mut self.record, kind, k);
-        self.take(reply)
+        let (slots, kept) = self.lent.change();
+        let reply = raw::pop_front_if(slots, &mut kept.record, kind, k);
+        kept.take(reply)
     }
 
-    /// Hands the last element over, if it meets the test.
+    /// Hands the last element over if it meets the test; else `None`, and it stays.
     #[inline]
-    pub fn pop_back_if(&mut self, test: Test) -> Result<Option<u32>, Refusal> {
+    pub fn pop_back_if(&mut self, test: Test) -> Option<u32> {
         let (kind, k) = test.numbers();
-        let reply = raw::pop_back_if(self.slots, &mut self.record, kind, k);
-        self.take(reply)
+        let (slots, kept) = self.lent.change();
+        let reply = raw::pop_back_if(slots, &mut kept.record, kind, k);
+        kept.take(reply)
     }
 
-    /// Keeps the first n elements.
+    /// Keeps the first n elements, or all if there are no more.
     #[inline]
-    pub fn truncate(&mut self, n: usize) -> Result<(), Refusal> {
-        let reply = raw::truncate(self.slots, &mut self.record, n);
-        self.take_change(reply)
+    pub fn truncate(&mut self, n: usize) {
+        let (slots, kept) = self.lent.change();
+        let reply = raw::truncate(slots, &mut kept.record, n);
+        kept.take(reply);
     }
 
-    /// Keeps the last n elements.
+    /// Keeps the last n elements, or all if there are no more.
     #[inline]
-    pub fn truncate_front(&mut self, n: usize) -> Result<(), Refusal> {
-        let reply = raw::truncate_front(self.slots, &mut self.record, n);
-        self.take_change(reply)
+    pub fn truncate_front(&mut self, n: usize) {
+        let (slots, kept) = self.lent.change();
+        let reply = raw::truncate_front(slots, &mut kept.record, n);
+        kept.take(reply);
     }
 
     /// Keeps no element, and starts anew at the first slot.
     #[inline]
-    pub fn clear(&mut self) -> Result<(), Refusal> {
-        let reply = raw::clear(self.slots, &mut self.record);
-        self.take_change(reply)
+    pub fn clear(&mut self) {
+        let (slots, kept) = self.lent.change();
+        let reply = raw::clear(slots, &mut kept.record);
+        kept.take(reply);
     }
 
     /// Exchanges the elements at positions i and j.
+    ///
+    /// # Errors
+    ///
+    /// [`Refusal::Position`] (3) if there is no element at one of them.
     #[inline]
     pub fn swap(&mut self, i: usize, j: usize) -> Result<(), Refusal> {
-        let reply = raw::swap(self.slots, &mut self.record, i, j);
-        self.take_change(reply)
+        let (slots, kept) = self.lent.change();
+        let reply = raw::swap(slots, &mut kept.record, i, j);
+        kept.take_change(reply)
     }
 
-    /// Hands the element at position i over, and puts the first one in its place.
+    /// Hands the element at position i over and puts the first one in its place; `None` past the end.
     #[inline]
-    pub fn swap_remove_front(&mut self, i: usize) -> Result<Option<u32>, Refusal> {
-        let reply = raw::swap_remove_front(self.slots, &mut self.record, i);
-        self.take(reply)
+    pub fn swap_remove_front(&mut self, i: usize) -> Option<u32> {
+        let (slots, kept) = self.lent.change();
+        let reply = raw::swap_remove_front(slots, &mut kept.record, i);
+        kept.take(reply)
     }
 
-    /// Hands the element at position i over, and puts the last one in its place.
+    /// Hands the element at position i over and puts the last one in its place; `None` past the end.
     #[inline]
-    pub fn swap_remove_back(&mut self, i: usize) -> Result<Option<u32>, Refusal> {
-        let reply = raw::swap_remove_back(self.slots, &mut self.record, i);
-        self.take(reply)
+    pub fn swap_remove_back(&mut self, i: usize) -> Option<u32> {
+        let (slots, kept) = self.lent.change();
+        let reply = raw::swap_remove_back(slots, &mut kept.record, i);
+        kept.take(reply)
     }
 
-    /// Puts v at position i; the shorter side moves.
+    /// Puts v at position i, where `len` is behind the last element; the shorter side moves.
+    ///
+    /// # Errors
+    ///
+    /// In this order:
+    /// - [`Refusal::Position`] (3) if i is more than `len`;
+    /// - [`Refusal::Room`] (4) if every slot holds an element.
     #[inline]
     pub fn insert(&mut self, i: usize, v: u32) -> Result<(), Refusal> {
-        let reply = raw::insert(self.slots, &mut self.record, i, v);
-        self.take_change(reply)
+        let (slots, kept) = self.lent.change();
+        let reply = raw::insert(slots, &mut kept.record, i, v);
+        kept.take_change(reply)
     }
 
-    /// Hands the element at position i over; the shorter side moves.
+    /// Hands the element at position i over, and the shorter side moves; `None` past the end.
     #[inline]
-    pub fn remove(&mut self, i: usize) -> Result<Option<u32>, Refusal> {
-        let reply = raw::remove(self.slots, &mut self.record, i);
-        self.take(reply)
+    pub fn remove(&mut self, i: usize) -> Option<u32> {
+        let (slots, kept) = self.lent.change();
+        let reply = raw::remove(slots, &mut kept.record, i);
+        kept.take(reply)
     }
 
     /// Keeps, in order, the elements that meet the test.
     #[inline]
-    pub fn retain(&mut self, test: Test) -> Result<(), Refusal> {
+    pub fn retain(&mut self, test: Test) {
         let (kind, k) = test.numbers();
-        let reply = raw::retain(self.slots, &mut self.record, kind, k);
-        self.take_change(reply)
+        let (slots, kept) = self.lent.change();
+        let reply = raw::retain(slots, &mut kept.record, kind, k);
+        kept.take(reply);
     }
 
-    /// Appends the values.
+    /// Appends the values, or none of them.
+    ///
+    /// # Errors
+    ///
+    /// [`Refusal::Room`] (4) if they do not all fit.
     #[inline]
     pub fn extend(&mut self, values: &[u32]) -> Result<(), Refusal> {
-        let reply = raw::extend(self.slots, &mut self.record, values);
-        self.take_change(reply)
+        let (slots, kept) = self.lent.change();
+        let reply = raw::extend(slots, &mut kept.record, values);
+        kept.take_change(reply)
     }
 
-    /// Puts the values in front, in their order.
+    /// Puts the values in front, in their order, or none of them.
+    ///
+    /// # Errors
+    ///
+    /// [`Refusal::Room`] (4) if they do not all fit.
     #[inline]
     pub fn prepend(&mut self, values: &[u32]) -> Result<(), Refusal> {
-        let reply = raw::prepend(self.slots, &mut self.record, values);
-        self.take_change(reply)
+        let (slots, kept) = self.lent.change();
+        let reply = raw::prepend(slots, &mut kept.record, values);
+        kept.take_change(reply)
     }
 
-    /// Puts the values in front, the last of them first.
+    /// Puts the values in front, the last of them first, or none of them.
+    ///
+    /// # Errors
+    ///
+    /// [`Refusal::Room`] (4) if they do not all fit.
     #[inline]
     pub fn extend_front(&mut self, values: &[u32]) -> Result<(), Refusal> {
-        let reply = raw::extend_front(self.slots, &mut self.record, values);
-        self.take_change(reply)
+        let (slots, kept) = self.lent.change();
+        let reply = raw::extend_front(slots, &mut kept.record, values);
+        kept.take_change(reply)
     }
 
-    /// Truncates to the first n elements, or appends copies of v up to n.
+    /// Keeps the first n elements, or appends copies of v until there are n.
+    ///
+    /// # Errors
+    ///
+    /// [`Refusal::Room`] (4) if n is more than the number of slots.
     #[inline]
     pub fn resize(&mut self, n: usize, v: u32) -> Result<(), Refusal> {
-        let reply = raw::resize(self.slots, &mut self.record, n, v);
-        self.take_change(reply)
+        let (slots, kept) = self.lent.change();
+        let reply = raw::resize(slots, &mut kept.record, n, v);
+        kept.take_change(reply)
     }
 
     /// Takes the other queue's elements behind its own, and leaves the other empty.
+    ///
+    /// # Errors
+    ///
+    /// [`Refusal::Room`] (4) if they do not all fit; both queues are as they were then.
     #[inline]
     pub fn append(&mut self, other: &mut Queue<'_>) -> Result<(), Refusal> {
-        let reply = raw::append(self.slots, &mut self.record, other.slots, &mut other.record);
-        self.take_change(reply)
+        let (slots, kept) = self.lent.change();
+        let (other_slots, other_kept) = other.lent.change();
+        let reply = raw::append(slots, &mut kept.record, other_slots, &mut other_kept.record);
+        kept.take_change(reply)?;
+        other_kept.moved = reply.moved;
+        Ok(())
     }
 
-    /// Moves the elements from position `at` on into other slots, as a queue of their own.
+    /// Moves the elements from position `at` on into other slots, from the first on, as a queue of their own.
+    ///
+    /// # Errors
+    ///
+    /// In this order, with the target as it was:
+    /// - [`Refusal::Slots`] (1) if the target has more than 16,000 slots;
+    /// - [`Refusal::Position`] (3) if `at` is more than `len`;
+    /// - [`Refusal::Room`] (4) if the target has fewer slots than elements are to go there.
     #[inline]
-    pub fn split_off<'b>(
-        &mut self,
-        at: usize,
-        target: &'b mut [u32],
-    ) -> Result<Queue<'b>, Refusal> {
+    pub fn split_off<'b>(&mut self, at: usize, target: &'b mut [u32]) -> Result<Queue<'b>, Refusal> {
+        let (slots, kept) = self.lent.change();
         let mut record = Record::default();
-        let reply = raw::split_off(self.slots, &mut self.record, at, target, &mut record);
-        self.take_change(reply)?;
-        Ok(Queue::with_record(target, record))
+        let reply = raw::split_off(slots, &mut kept.record, at, target, &mut record);
+        kept.take_change(reply)?;
+        Ok(Queue::over(target, record, reply.moved))
     }
 
     /// Opens a drain of a range, which hands its elements over and closes where it is dropped.
+    ///
+    /// # Errors
+    ///
+    /// [`Refusal::Position`] (3) if the range ends before it starts, or past the end of the queue.
     #[inline]
     pub fn drain(&mut self, range: impl RangeBounds<usize>) -> Result<Drain<'_, 'a>, Refusal> {
         let (start, end) = self.ends(range)?;
         Drain::open(self, start, end)
     }
 
-    /// Puts the values in the place of a range.
+    /// Puts the values in the place of a range, whose elements leave.
+    ///
+    /// # Errors
+    ///
+    /// In this order:
+    /// - [`Refusal::Position`] (3) if the range ends before it starts, or past the end of the queue;
+    /// - [`Refusal::Room`] (4) if the values do not all fit.
     #[inline]
-    pub fn splice(
-        &mut self,
-        range: impl RangeBounds<usize>,
-        values: &[u32],
-    ) -> Result<(), Refusal> {
+    pub fn splice(&mut self, range: impl RangeBounds<usize>, values: &[u32]) -> Result<(), Refusal> {
         let (start, end) = self.ends(range)?;
-        let reply = raw::splice(self.slots, &mut self.record, start, end, values);
-        self.take_change(reply)
+        let (slots, kept) = self.lent.change();
+        let reply = raw::splice(slots, &mut kept.record, start, end, values);
+        kept.take_change(reply)
     }
 }

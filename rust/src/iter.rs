@@ -1,25 +1,39 @@
-//! A walk over a queue's list.
-use crate::raw;
-use crate::{Record, Refusal};
+//! The elements of a queue, one after the other.
+use core::iter::FusedIterator;
+use core::mem;
+use core::slice;
 
-/// A walk that borrows the slots and gives the elements from both ends.
-#[derive(Clone)]
-pub struct Iter<'s> {
-    slots: &'s [u32],
-    walk: raw::Walk,
+/// The elements of a queue in order, by value, from either end: those of its two runs.
+#[derive(Clone, Debug, Default)]
+#[must_use = "an iterator does nothing unless it is used"]
+pub struct Iter<'q> {
+    front: slice::Iter<'q, u32>,
+    back: slice::Iter<'q, u32>,
 }
 
-impl<'s> Iter<'s> {
-    pub(crate) fn begin(slots: &'s [u32], record: &Record) -> Result<Iter<'s>, Refusal> {
-        let mut walk = raw::Walk::default();
-        Refusal::of(raw::begin_walk(slots, record, &mut walk))?;
-        Ok(Iter { slots, walk })
+impl<'q> Iter<'q> {
+    /// The elements of the first run, then those of the second.
+    #[inline]
+    pub(crate) fn over(front: &'q [u32], back: &'q [u32]) -> Iter<'q> {
+        Iter { front: front.iter(), back: back.iter() }
     }
-}
 
-/// What a step gave. No step is refused: the walk was begun over these slots.
-fn given(reply: raw::FoundReply) -> Option<u32> {
-    (reply.found == 1).then_some(reply.number)
+    /// The first element of what is left of the second run, once the first one is over.
+    // Apart, so that a loop over a run is as short as over a slice; the same for the other end.
+    #[cold]
+    #[inline(never)]
+    fn next_run(&mut self) -> Option<u32> {
+        self.front = mem::take(&mut self.back);
+        self.front.next().copied()
+    }
+
+    /// The last element of what is left of the first run, once the second one is over.
+    #[cold]
+    #[inline(never)]
+    fn last_run(&mut self) -> Option<u32> {
+        self.back = mem::take(&mut self.front);
+        self.back.next_back().copied()
+    }
 }
 
 impl Iterator for Iter<'_> {
@@ -27,20 +41,66 @@ impl Iterator for Iter<'_> {
 
     #[inline]
     fn next(&mut self) -> Option<u32> {
-        given(raw::walk_next(self.slots, &mut self.walk))
+        match self.front.next() {
+            Some(x) => Some(*x),
+            None => self.next_run(),
+        }
     }
 
+    #[inline]
     fn size_hint(&self) -> (usize, Option<usize>) {
-        let left = self.walk.high - self.walk.low;
+        let left = self.front.len() + self.back.len();
         (left, Some(left))
+    }
+
+    #[inline]
+    fn nth(&mut self, n: usize) -> Option<u32> {
+        let first = self.front.len();
+        if n < first {
+            return self.front.nth(n).copied();
+        }
+        self.front = mem::take(&mut self.back);
+        self.front.nth(n - first).copied()
+    }
+
+    #[inline]
+    fn last(mut self) -> Option<u32> {
+        self.next_back()
+    }
+
+    #[inline]
+    fn fold<B, F: FnMut(B, u32) -> B>(self, first: B, mut f: F) -> B {
+        let middle = self.front.copied().fold(first, &mut f);
+        self.back.copied().fold(middle, f)
     }
 }
 
 impl DoubleEndedIterator for Iter<'_> {
     #[inline]
     fn next_back(&mut self) -> Option<u32> {
-        given(raw::walk_next_back(self.slots, &mut self.walk))
+        match self.back.next_back() {
+            Some(x) => Some(*x),
+            None => self.last_run(),
+        }
+    }
+
+    #[inline]
+    fn nth_back(&mut self, n: usize) -> Option<u32> {
+        let last = self.back.len();
+        if n < last {
+            return self.back.nth_back(n).copied();
+        }
+        self.back = mem::take(&mut self.front);
+        self.back.nth_back(n - last).copied()
+    }
+
+    #[inline]
+    fn rfold<B, F: FnMut(B, u32) -> B>(self, last: B, mut f: F) -> B {
+        let middle = self.back.copied().rfold(last, &mut f);
+        self.front.copied().rfold(middle, f)
     }
 }
 
 impl ExactSizeIterator for Iter<'_> {}
+
+impl FusedIterator for Iter<'_> {}

@@ -1,5 +1,7 @@
-//! A double-ended queue of `u32` in slots that the caller lends: Rust's `VecDeque` without allocation, over calls that are proved to do what the queue's
-//! rules say. The methods bear `VecDeque`'s names; what can't be met is refused, and then nothing has changed.
+//! A double-ended queue of `u32` in slots that the caller lends: the standard library's `VecDeque` without allocation.
+//!
+//! The work is done by an archive of compiled functions, each of which is proved to leave the answer, the queue and
+//! every slot that its rules say, for any slots and numbers; this crate is the safe Rust over them. It needs no `std`.
 //!
 //! ```
 //! use scorebucket::{Queue, Refusal, Test};
@@ -7,23 +9,56 @@
 //! let mut slots = [0u32; 4]; // the number of slots is the capacity, at most 16,000
 //! let mut queue = Queue::new(&mut slots)?;
 //! queue.extend(&[10, 20, 30, 40])?;
-//! assert_eq!(queue.push_back(50), Err(Refusal::Room));
-//! let settled: Vec<u32> = queue.drain(1..3)?.collect(); // the drain closes where it is dropped
-//! assert_eq!(settled, [20, 30]);
-//! queue.retain(Test::AtLeast(20))?;
-//! assert_eq!(queue.pop_front()?, Some(40));
+//! assert_eq!(queue.push_back(50), Err(Refusal::Room)); // nothing is overwritten, nothing grows
+//!
+//! for number in queue.drain(1..3)? {
+//!     println!("{number} has left"); // 20, then 30
+//! }
+//! assert_eq!(queue, [10, 40]);
+//!
+//! queue.retain(Test::AtLeast(20));
+//! assert_eq!(queue.front(), Some(40));
+//! assert_eq!(queue.iter().sum::<u32>(), 40);
 //! # Ok::<(), Refusal>(())
 //! ```
+//!
+//! # Refusals
+//!
+//! What can't be met is refused: the method gives an `Err` of a [`Refusal`], and then nothing has changed. Each method
+//! says under "Errors" which refusals it gives and when. A method that gives no `Result` is never refused.
+//!
+//! # Beside `VecDeque`
+//!
+//! Methods bear `VecDeque`'s names and do what it does to the list. What differs:
+//!
+//! - Elements are given by value: [`Queue::get`] is an `Option<u32>`, and [`Queue::iter`] gives `u32`.
+//! - Where `VecDeque` would grow, or panic for a position past the end, a method refuses; indexing alone panics.
+//! - A condition is a [`Test`], not a closure, and values come as a slice, not as an iterator.
+//! - [`Queue::split_off`] takes the slots of the queue that it makes.
+//! - An element can't be changed in its place (`IndexMut`, `get_mut`, `iter_mut`): numbers come and go by calls alone.
+//! - The slots are borrowed, so a queue can't be copied or made without any (`Clone`, `Default`, `FromIterator`), and
+//!   it can't refuse through the `Extend` trait: there are [`Queue::extend`] and its like.
+//!
+//! # The archive
+//!
+//! The crate links the archive that `sh tools/native.sh . exports` leaves in the repository's folder target/native,
+//! for Linux on x86-64 and on Arm. To link another, set `SCOREBUCKET_ARCHIVE` to its path: an absolute one, or one
+//! from the folder in which cargo is called.
+#![no_std]
 #![warn(missing_docs)]
 
+#[cfg(test)]
+mod archive_steps;
 mod changes;
 mod drain;
 mod iter;
+mod lent;
 mod looks;
 mod queue;
 mod raw;
 mod refusal;
 mod test;
+mod traits;
 
 pub use drain::Drain;
 pub use iter::Iter;

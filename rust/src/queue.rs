@@ -1,97 +1,105 @@
-//! The queue: lent slots and a record.
-use crate::raw::{self, Record};
-use crate::Refusal;
-use std::ops::{Bound, RangeBounds};
+//! The queue: how it is made, and what it is.
+use crate::lent::Lent;
+use crate::raw;
+use crate::{Record, Refusal};
+use core::ops::{Bound, RangeBounds};
 
-/// A queue over lent slots. Every method that changes it can be asked for how many elements it left in another slot, by [`Queue::moved`].
+/// A double-ended queue over lent slots, whose number is its capacity.
+///
+/// The queue borrows the slots as long as it is used; what it is beside them is a small [`Record`]. A queue that is to
+/// be used again later is the slots and the record that [`Queue::record`] gives: [`Queue::with_record`] takes both.
 pub struct Queue<'a> {
-    pub(crate) slots: &'a mut [u32],
-    pub(crate) record: Record,
-    /// The record of its drain, while one is open.
-    pub(crate) drain: raw::Drain,
-    pub(crate) moved: usize,
+    pub(crate) lent: Lent<'a>,
 }
 
 impl<'a> Queue<'a> {
-    /// An empty queue.
+    /// An empty queue over the slots.
+    ///
+    /// # Errors
+    ///
+    /// [`Refusal::Slots`] (1) if there are more than 16,000 slots.
     pub fn new(slots: &'a mut [u32]) -> Result<Queue<'a>, Refusal> {
         let mut record = Record::default();
         let reply = raw::fresh(slots, &mut record);
         Refusal::of(reply.refused)?;
-        Ok(Queue::with_record(slots, record))
+        Ok(Queue::over(slots, record, reply.moved))
     }
 
-    /// The queue that a saved image holds, from the first slot on.
+    /// The queue that [`Queue::write_image`] saved, from the first slot on.
+    ///
+    /// # Errors
+    ///
+    /// In this order, with the slots as they were:
+    /// - [`Refusal::Slots`] (1) if there are more than 16,000 slots;
+    /// - [`Refusal::Image`] (5) if the bytes are not one whole saved image;
+    /// - [`Refusal::Room`] (4) if the image has more elements than there are slots.
     pub fn read_image(slots: &'a mut [u32], bytes: &[u8]) -> Result<Queue<'a>, Refusal> {
         let mut record = Record::default();
         let reply = raw::read_image(slots, &mut record, bytes);
         Refusal::of(reply.refused)?;
-        Ok(Queue::with_record(slots, record))
+        Ok(Queue::over(slots, record, reply.moved))
     }
 
-    /// A queue whose elements stand in the slots already. Any record may be given: one that is not good is refused by each call.
-    pub fn with_record(slots: &'a mut [u32], record: Record) -> Queue<'a> {
-        Queue {
-            slots,
-            record,
-            drain: raw::Drain::default(),
-            moved: 0,
-        }
+    /// The queue whose elements stand in the slots already, as the record says.
+    ///
+    /// # Errors
+    ///
+    /// In this order:
+    /// - [`Refusal::Slots`] (1) if there are more than 16,000 slots;
+    /// - [`Refusal::Record`] (2) if the record does not fit the slots: `head` is no slot's number (where there are no
+    ///   slots it is 0), or `len` is more than their number.
+    pub fn with_record(slots: &'a mut [u32], record: Record) -> Result<Queue<'a>, Refusal> {
+        // a look at the first element is refused for these two reasons alone
+        Refusal::of(raw::front(slots, &record).refused)?;
+        Ok(Queue::over(slots, record, 0))
+    }
+
+    /// The queue of a record that is known to be good for the slots, as the call that made it says.
+    pub(crate) fn over(slots: &'a mut [u32], record: Record, moved: usize) -> Queue<'a> {
+        Queue { lent: Lent::new(slots, record, moved) }
     }
 
     /// How many elements it holds.
     #[inline]
     pub fn len(&self) -> usize {
-        self.record.len
+        self.record().len
     }
 
     /// Whether it holds none.
     #[inline]
     pub fn is_empty(&self) -> bool {
-        self.record.len == 0
+        self.len() == 0
     }
 
-    /// How many it can hold: the number of its slots.
+    /// How many elements it can hold: the number of its slots.
     #[inline]
     pub fn capacity(&self) -> usize {
-        self.slots.len()
+        self.slots().len()
     }
 
-    /// The record. With the slots it is the whole queue.
+    /// Its record as it is now. With the slots it is the whole queue; a change makes it stale.
     #[inline]
     pub fn record(&self) -> Record {
-        self.record
+        self.lent.look().1.record
     }
 
     /// All slots, those without an element too.
     #[inline]
     pub fn slots(&self) -> &[u32] {
-        self.slots
+        self.lent.look().0
     }
 
-    /// How many elements stand in another slot than before the last call that changed the queue.
+    /// How many elements the last call that this queue took part in left in another slot.
+    ///
+    /// Both queues of an [`append`](Queue::append) and of a [`split_off`](Queue::split_off) give the number of elements
+    /// that crossed. A call that only looks, or is refused, leaves the number as it is; a drain counts when it closes.
     #[inline]
     pub fn moved(&self) -> usize {
-        self.moved
-    }
-
-    /// Takes what a call on this queue answers beside its record.
-    #[inline]
-    pub(crate) fn take(&mut self, reply: raw::Reply) -> Result<Option<u32>, Refusal> {
-        Refusal::of(reply.refused)?;
-        self.moved = reply.moved;
-        Ok((reply.handed == 1).then_some(reply.number))
-    }
-
-    /// Takes what a call answers that hands nothing over.
-    #[inline]
-    pub(crate) fn take_change(&mut self, reply: raw::Reply) -> Result<(), Refusal> {
-        Refusal::of(reply.refused)?;
-        self.moved = reply.moved;
-        Ok(())
+        self.lent.look().1.moved
     }
 
     /// The first position of a range, and the one behind its last.
+    #[inline]
     pub(crate) fn ends(&self, range: impl RangeBounds<usize>) -> Result<(usize, usize), Refusal> {
         let behind = |i: &usize| i.checked_add(1).ok_or(Refusal::Position);
         let start = match range.start_bound() {
@@ -102,7 +110,7 @@ impl<'a> Queue<'a> {
         let end = match range.end_bound() {
             Bound::Included(i) => behind(i)?,
             Bound::Excluded(i) => *i,
-            Bound::Unbounded => self.record.len,
+            Bound::Unbounded => self.len(),
         };
         Ok((start, end))
     }

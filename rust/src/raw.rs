@@ -1,11 +1,12 @@
-//! The exported calls as they are, and over each a safe function that lends it slices. The only file with `unsafe`.
+//! The exported calls that this crate makes, as they are, and over each a safe function that lends it slices.
 //!
-//! Why the functions are safe: each exported call is proved for any slots, record and numbers; a slice or a reference is never null, is aligned and as long as it says; and
-//! what a call writes comes as `&mut`, so that nothing else in the call overlaps it. The structs are those of `include/scorebucket.h`.
+//! Why the functions are safe: each exported call is proved for any slots, record and numbers; a slice or a reference
+//! is never null, is aligned and as long as it says; and what a call writes comes as `&mut`, so that nothing else in
+//! the call overlaps it. The structs are those of `include/scorebucket.h`.
 
 /// The record of a queue: element i stands `i` slots on from `head`, round the end.
 #[repr(C)]
-#[derive(Clone, Copy, Debug, Default, PartialEq, Eq)]
+#[derive(Clone, Copy, Debug, Default, PartialEq, Eq, Hash)]
 pub struct Record {
     /// The slot of the first element.
     pub head: usize,
@@ -15,7 +16,7 @@ pub struct Record {
 
 /// The record of an open drain.
 #[repr(C)]
-#[derive(Clone, Copy, Default)]
+#[derive(Clone, Copy, Debug, Default, PartialEq)]
 pub(crate) struct Drain {
     pub head: usize,
     pub start: usize,
@@ -23,15 +24,6 @@ pub(crate) struct Drain {
     pub idx: usize,
     pub tail_len: usize,
     pub remaining: usize,
-}
-
-/// A walk by value.
-#[repr(C)]
-#[derive(Clone, Copy, Default)]
-pub(crate) struct Walk {
-    pub queue: Record,
-    pub low: usize,
-    pub high: usize,
 }
 
 /// A part of the slots.
@@ -52,7 +44,7 @@ pub(crate) struct Reply {
     pub moved: usize,
 }
 
-/// Of a look at one element, or a walk's step.
+/// Of a look at one element.
 #[repr(C)]
 #[derive(Clone, Copy)]
 pub(crate) struct FoundReply {
@@ -107,18 +99,8 @@ mod exported {
 
     extern "C" {
         pub fn scorebucket_fresh(slots: *const u32, slots_len: usize, q: *mut Record) -> Reply;
-        pub fn scorebucket_push_back(
-            slots: *mut u32,
-            slots_len: usize,
-            q: *mut Record,
-            v: u32,
-        ) -> Reply;
-        pub fn scorebucket_push_front(
-            slots: *mut u32,
-            slots_len: usize,
-            q: *mut Record,
-            v: u32,
-        ) -> Reply;
+        pub fn scorebucket_push_back(slots: *mut u32, slots_len: usize, q: *mut Record, v: u32) -> Reply;
+        pub fn scorebucket_push_front(slots: *mut u32, slots_len: usize, q: *mut Record, v: u32) -> Reply;
         pub fn scorebucket_pop_front(slots: *const u32, slots_len: usize, q: *mut Record) -> Reply;
         pub fn scorebucket_pop_back(slots: *const u32, slots_len: usize, q: *mut Record) -> Reply;
         pub fn scorebucket_pop_front_if(
@@ -128,81 +110,20 @@ mod exported {
             kind: u32,
             k: u32,
         ) -> Reply;
-        pub fn scorebucket_pop_back_if(
-            slots: *const u32,
-            slots_len: usize,
-            q: *mut Record,
-            kind: u32,
-            k: u32,
-        ) -> Reply;
-        pub fn scorebucket_get(
-            slots: *const u32,
-            slots_len: usize,
-            q: *const Record,
-            i: usize,
-        ) -> FoundReply;
-        pub fn scorebucket_front(
-            slots: *const u32,
-            slots_len: usize,
-            q: *const Record,
-        ) -> FoundReply;
-        pub fn scorebucket_back(
-            slots: *const u32,
-            slots_len: usize,
-            q: *const Record,
-        ) -> FoundReply;
-        pub fn scorebucket_truncate(
-            slots: *const u32,
-            slots_len: usize,
-            q: *mut Record,
-            n: usize,
-        ) -> Reply;
-        pub fn scorebucket_truncate_front(
-            slots: *const u32,
-            slots_len: usize,
-            q: *mut Record,
-            n: usize,
-        ) -> Reply;
+        pub fn scorebucket_pop_back_if(slots: *const u32, slots_len: usize, q: *mut Record, kind: u32, k: u32)
+            -> Reply;
+        pub fn scorebucket_get(slots: *const u32, slots_len: usize, q: *const Record, i: usize) -> FoundReply;
+        pub fn scorebucket_front(slots: *const u32, slots_len: usize, q: *const Record) -> FoundReply;
+        pub fn scorebucket_back(slots: *const u32, slots_len: usize, q: *const Record) -> FoundReply;
+        pub fn scorebucket_truncate(slots: *const u32, slots_len: usize, q: *mut Record, n: usize) -> Reply;
+        pub fn scorebucket_truncate_front(slots: *const u32, slots_len: usize, q: *mut Record, n: usize) -> Reply;
         pub fn scorebucket_clear(slots: *const u32, slots_len: usize, q: *mut Record) -> Reply;
-        pub fn scorebucket_swap(
-            slots: *mut u32,
-            slots_len: usize,
-            q: *mut Record,
-            i: usize,
-            j: usize,
-        ) -> Reply;
-        pub fn scorebucket_swap_remove_front(
-            slots: *mut u32,
-            slots_len: usize,
-            q: *mut Record,
-            i: usize,
-        ) -> Reply;
-        pub fn scorebucket_swap_remove_back(
-            slots: *mut u32,
-            slots_len: usize,
-            q: *mut Record,
-            i: usize,
-        ) -> Reply;
-        pub fn scorebucket_insert(
-            slots: *mut u32,
-            slots_len: usize,
-            q: *mut Record,
-            i: usize,
-            v: u32,
-        ) -> Reply;
-        pub fn scorebucket_remove(
-            slots: *mut u32,
-            slots_len: usize,
-            q: *mut Record,
-            i: usize,
-        ) -> Reply;
-        pub fn scorebucket_retain(
-            slots: *mut u32,
-            slots_len: usize,
-            q: *mut Record,
-            kind: u32,
-            k: u32,
-        ) -> Reply;
+        pub fn scorebucket_swap(slots: *mut u32, slots_len: usize, q: *mut Record, i: usize, j: usize) -> Reply;
+        pub fn scorebucket_swap_remove_front(slots: *mut u32, slots_len: usize, q: *mut Record, i: usize) -> Reply;
+        pub fn scorebucket_swap_remove_back(slots: *mut u32, slots_len: usize, q: *mut Record, i: usize) -> Reply;
+        pub fn scorebucket_insert(slots: *mut u32, slots_len: usize, q: *mut Record, i: usize, v: u32) -> Reply;
+        pub fn scorebucket_remove(slots: *mut u32, slots_len: usize, q: *mut Record, i: usize) -> Reply;
+        pub fn scorebucket_retain(slots: *mut u32, slots_len: usize, q: *mut Record, kind: u32, k: u32) -> Reply;
         pub fn scorebucket_extend(
             slots: *mut u32,
             slots_len: usize,
@@ -224,13 +145,7 @@ mod exported {
             values: *const u32,
             values_len: usize,
         ) -> Reply;
-        pub fn scorebucket_resize(
-            slots: *mut u32,
-            slots_len: usize,
-            q: *mut Record,
-            n: usize,
-            v: u32,
-        ) -> Reply;
+        pub fn scorebucket_resize(slots: *mut u32, slots_len: usize, q: *mut Record, n: usize, v: u32) -> Reply;
         pub fn scorebucket_append(
             slots: *mut u32,
             slots_len: usize,
@@ -256,18 +171,7 @@ mod exported {
             end: usize,
             d: *mut Drain,
         ) -> Reply;
-        pub fn scorebucket_drain_next(slots: *const u32, slots_len: usize, d: *mut Drain) -> Reply;
-        pub fn scorebucket_drain_next_back(
-            slots: *const u32,
-            slots_len: usize,
-            d: *mut Drain,
-        ) -> Reply;
-        pub fn scorebucket_drain_close(
-            slots: *mut u32,
-            slots_len: usize,
-            d: *const Drain,
-            q: *mut Record,
-        ) -> Reply;
+        pub fn scorebucket_drain_close(slots: *mut u32, slots_len: usize, d: *const Drain, q: *mut Record) -> Reply;
         pub fn scorebucket_splice(
             slots: *mut u32,
             slots_len: usize,
@@ -285,28 +189,7 @@ mod exported {
             end: usize,
             runs: *mut Runs,
         ) -> u16;
-        pub fn scorebucket_begin_walk(
-            slots: *const u32,
-            slots_len: usize,
-            q: *const Record,
-            w: *mut Walk,
-        ) -> u16;
-        pub fn scorebucket_walk_next(
-            slots: *const u32,
-            slots_len: usize,
-            w: *mut Walk,
-        ) -> FoundReply;
-        pub fn scorebucket_walk_next_back(
-            slots: *const u32,
-            slots_len: usize,
-            w: *mut Walk,
-        ) -> FoundReply;
-        pub fn scorebucket_contains(
-            slots: *const u32,
-            slots_len: usize,
-            q: *const Record,
-            x: u32,
-        ) -> TruthReply;
+        pub fn scorebucket_contains(slots: *const u32, slots_len: usize, q: *const Record, x: u32) -> TruthReply;
         pub fn scorebucket_eq(
             slots: *const u32,
             slots_len: usize,
@@ -323,12 +206,7 @@ mod exported {
             other_slots_len: usize,
             other: *const Record,
         ) -> OrderReply;
-        pub fn scorebucket_binary_search(
-            slots: *const u32,
-            slots_len: usize,
-            q: *const Record,
-            x: u32,
-        ) -> SearchReply;
+        pub fn scorebucket_binary_search(slots: *const u32, slots_len: usize, q: *const Record, x: u32) -> SearchReply;
         pub fn scorebucket_partition_point(
             slots: *const u32,
             slots_len: usize,
@@ -450,41 +328,17 @@ pub(crate) fn retain(slots: &mut [u32], q: &mut Record, kind: u32, k: u32) -> Re
 
 #[inline]
 pub(crate) fn extend(slots: &mut [u32], q: &mut Record, values: &[u32]) -> Reply {
-    unsafe {
-        exported::scorebucket_extend(
-            slots.as_mut_ptr(),
-            slots.len(),
-            q,
-            values.as_ptr(),
-            values.len(),
-        )
-    }
+    unsafe { exported::scorebucket_extend(slots.as_mut_ptr(), slots.len(), q, values.as_ptr(), values.len()) }
 }
 
 #[inline]
 pub(crate) fn prepend(slots: &mut [u32], q: &mut Record, values: &[u32]) -> Reply {
-    unsafe {
-        exported::scorebucket_prepend(
-            slots.as_mut_ptr(),
-            slots.len(),
-            q,
-            values.as_ptr(),
-            values.len(),
-        )
-    }
+    unsafe { exported::scorebucket_prepend(slots.as_mut_ptr(), slots.len(), q, values.as_ptr(), values.len()) }
 }
 
 #[inline]
 pub(crate) fn extend_front(slots: &mut [u32], q: &mut Record, values: &[u32]) -> Reply {
-    unsafe {
-        exported::scorebucket_extend_front(
-            slots.as_mut_ptr(),
-            slots.len(),
-            q,
-            values.as_ptr(),
-            values.len(),
-        )
-    }
+    unsafe { exported::scorebucket_extend_front(slots.as_mut_ptr(), slots.len(), q, values.as_ptr(), values.len()) }
 }
 
 #[inline]
@@ -493,43 +347,15 @@ pub(crate) fn resize(slots: &mut [u32], q: &mut Record, n: usize, v: u32) -> Rep
 }
 
 #[inline]
-pub(crate) fn append(
-    slots: &mut [u32],
-    q: &mut Record,
-    other_slots: &[u32],
-    other: &mut Record,
-) -> Reply {
+pub(crate) fn append(slots: &mut [u32], q: &mut Record, other_slots: &[u32], other: &mut Record) -> Reply {
     unsafe {
-        exported::scorebucket_append(
-            slots.as_mut_ptr(),
-            slots.len(),
-            q,
-            other_slots.as_ptr(),
-            other_slots.len(),
-            other,
-        )
+        exported::scorebucket_append(slots.as_mut_ptr(), slots.len(), q, other_slots.as_ptr(), other_slots.len(), other)
     }
 }
 
 #[inline]
-pub(crate) fn split_off(
-    slots: &[u32],
-    q: &mut Record,
-    at: usize,
-    target: &mut [u32],
-    t: &mut Record,
-) -> Reply {
-    unsafe {
-        exported::scorebucket_split_off(
-            slots.as_ptr(),
-            slots.len(),
-            q,
-            at,
-            target.as_mut_ptr(),
-            target.len(),
-            t,
-        )
-    }
+pub(crate) fn split_off(slots: &[u32], q: &mut Record, at: usize, target: &mut [u32], t: &mut Record) -> Reply {
+    unsafe { exported::scorebucket_split_off(slots.as_ptr(), slots.len(), q, at, target.as_mut_ptr(), target.len(), t) }
 }
 
 #[inline]
@@ -538,65 +364,20 @@ pub(crate) fn drain(slots: &[u32], q: &Record, start: usize, end: usize, d: &mut
 }
 
 #[inline]
-pub(crate) fn drain_next(slots: &[u32], d: &mut Drain) -> Reply {
-    unsafe { exported::scorebucket_drain_next(slots.as_ptr(), slots.len(), d) }
-}
-
-#[inline]
-pub(crate) fn drain_next_back(slots: &[u32], d: &mut Drain) -> Reply {
-    unsafe { exported::scorebucket_drain_next_back(slots.as_ptr(), slots.len(), d) }
-}
-
-#[inline]
 pub(crate) fn drain_close(slots: &mut [u32], d: &Drain, q: &mut Record) -> Reply {
     unsafe { exported::scorebucket_drain_close(slots.as_mut_ptr(), slots.len(), d, q) }
 }
 
 #[inline]
-pub(crate) fn splice(
-    slots: &mut [u32],
-    q: &mut Record,
-    start: usize,
-    end: usize,
-    values: &[u32],
-) -> Reply {
+pub(crate) fn splice(slots: &mut [u32], q: &mut Record, start: usize, end: usize, values: &[u32]) -> Reply {
     unsafe {
-        exported::scorebucket_splice(
-            slots.as_mut_ptr(),
-            slots.len(),
-            q,
-            start,
-            end,
-            values.as_ptr(),
-            values.len(),
-        )
+        exported::scorebucket_splice(slots.as_mut_ptr(), slots.len(), q, start, end, values.as_ptr(), values.len())
     }
 }
 
 #[inline]
-pub(crate) fn slice_ranges(
-    slots: &[u32],
-    q: &Record,
-    start: usize,
-    end: usize,
-    runs: &mut Runs,
-) -> u16 {
+pub(crate) fn slice_ranges(slots: &[u32], q: &Record, start: usize, end: usize, runs: &mut Runs) -> u16 {
     unsafe { exported::scorebucket_slice_ranges(slots.as_ptr(), slots.len(), q, start, end, runs) }
-}
-
-#[inline]
-pub(crate) fn begin_walk(slots: &[u32], q: &Record, w: &mut Walk) -> u16 {
-    unsafe { exported::scorebucket_begin_walk(slots.as_ptr(), slots.len(), q, w) }
-}
-
-#[inline]
-pub(crate) fn walk_next(slots: &[u32], w: &mut Walk) -> FoundReply {
-    unsafe { exported::scorebucket_walk_next(slots.as_ptr(), slots.len(), w) }
-}
-
-#[inline]
-pub(crate) fn walk_next_back(slots: &[u32], w: &mut Walk) -> FoundReply {
-    unsafe { exported::scorebucket_walk_next_back(slots.as_ptr(), slots.len(), w) }
 }
 
 #[inline]
@@ -606,30 +387,12 @@ pub(crate) fn contains(slots: &[u32], q: &Record, x: u32) -> TruthReply {
 
 #[inline]
 pub(crate) fn eq(slots: &[u32], q: &Record, other_slots: &[u32], other: &Record) -> TruthReply {
-    unsafe {
-        exported::scorebucket_eq(
-            slots.as_ptr(),
-            slots.len(),
-            q,
-            other_slots.as_ptr(),
-            other_slots.len(),
-            other,
-        )
-    }
+    unsafe { exported::scorebucket_eq(slots.as_ptr(), slots.len(), q, other_slots.as_ptr(), other_slots.len(), other) }
 }
 
 #[inline]
 pub(crate) fn cmp(slots: &[u32], q: &Record, other_slots: &[u32], other: &Record) -> OrderReply {
-    unsafe {
-        exported::scorebucket_cmp(
-            slots.as_ptr(),
-            slots.len(),
-            q,
-            other_slots.as_ptr(),
-            other_slots.len(),
-            other,
-        )
-    }
+    unsafe { exported::scorebucket_cmp(slots.as_ptr(), slots.len(), q, other_slots.as_ptr(), other_slots.len(), other) }
 }
 
 #[inline]
@@ -644,26 +407,10 @@ pub(crate) fn partition_point(slots: &[u32], q: &Record, kind: u32, k: u32) -> C
 
 #[inline]
 pub(crate) fn write_image(slots: &[u32], q: &Record, target: &mut [u8]) -> CountReply {
-    unsafe {
-        exported::scorebucket_write_image(
-            slots.as_ptr(),
-            slots.len(),
-            q,
-            target.as_mut_ptr(),
-            target.len(),
-        )
-    }
+    unsafe { exported::scorebucket_write_image(slots.as_ptr(), slots.len(), q, target.as_mut_ptr(), target.len()) }
 }
 
 #[inline]
 pub(crate) fn read_image(slots: &mut [u32], q: &mut Record, bytes: &[u8]) -> Reply {
-    unsafe {
-        exported::scorebucket_read_image(
-            slots.as_mut_ptr(),
-            slots.len(),
-            q,
-            bytes.as_ptr(),
-            bytes.len(),
-        )
-    }
+    unsafe { exported::scorebucket_read_image(slots.as_mut_ptr(), slots.len(), q, bytes.as_ptr(), bytes.len()) }
 }

@@ -1,23 +1,31 @@
 //! Why a call was refused.
-use std::error::Error;
-use std::fmt;
+use core::error::Error;
+use core::fmt;
 
-/// Why a call was refused: document 01's numbers 1 to 5. A refused call has changed nothing.
-#[derive(Clone, Copy, Debug, PartialEq, Eq)]
+/// Why a call was refused. A refused call has changed nothing.
+///
+/// The numbers are those of the C header and of the replay program's lines. Where several reasons hold, a method says
+/// under "Errors" in which order they are asked.
+#[derive(Clone, Copy, Debug, PartialEq, Eq, Hash)]
 pub enum Refusal {
-    /// More than 16,000 slots.
+    /// There are more than 16,000 slots.
     Slots = 1,
-    /// A record that is not good for the slots.
+    /// The record does not fit the slots: `head` is no slot's number, or `len` is more than their number.
     Record = 2,
-    /// A position or a range past the end.
+    /// A position or a range is past the end of the queue, or a range ends before it starts.
     Position = 3,
-    /// The elements or bytes do not fit.
+    /// The elements do not fit the slots, or the bytes the target.
     Room = 4,
-    /// Image bytes that break their layout.
+    /// The bytes are not one whole saved image.
     Image = 5,
 }
 
 impl Refusal {
+    /// Its number, from 1 to 5.
+    pub fn number(self) -> u16 {
+        self as u16
+    }
+
     /// Ok where a call was accepted. That is asked first, and alone.
     #[inline]
     pub(crate) fn of(number: u16) -> Result<(), Refusal> {
@@ -29,6 +37,7 @@ impl Refusal {
 
     /// The refusal of a number, which is not 0.
     #[cold]
+    #[inline(never)]
     fn numbered(number: u16) -> Refusal {
         match number {
             1 => Refusal::Slots,
@@ -44,10 +53,10 @@ impl fmt::Display for Refusal {
     fn fmt(&self, f: &mut fmt::Formatter<'_>) -> fmt::Result {
         f.write_str(match self {
             Refusal::Slots => "more than 16,000 slots",
-            Refusal::Record => "a record that is not good for the slots",
-            Refusal::Position => "a position or a range past the end",
+            Refusal::Record => "a record that does not fit the slots",
+            Refusal::Position => "a position or range past the end",
             Refusal::Room => "no room",
-            Refusal::Image => "image bytes that break their layout",
+            Refusal::Image => "bytes that are no saved image",
         })
     }
 }

@@ -1,7 +1,7 @@
 //! Tests of an element.
 
 /// What an element is asked, in place of a closure.
-#[derive(Clone, Copy, Debug, PartialEq, Eq)]
+#[derive(Clone, Copy, Debug, PartialEq, Eq, Hash)]
 pub enum Test {
     /// It is below the number.
     Below(u32),

@@ -1,18 +1,8 @@
 //! Every call once, on a queue whose list goes round the end.
 mod common;
 
-use common::{LAID, WRAPPED};
-use scorebucket::{Queue, Record, Refusal, Test};
-use std::cmp::Ordering;
-
-fn wrapped(slots: &mut [u32; 6]) -> Queue<'_> {
-    *slots = LAID;
-    Queue::with_record(slots, WRAPPED)
-}
-
-fn list(queue: &Queue<'_>) -> Vec<u32> {
-    queue.iter().unwrap().collect()
-}
+use common::{wrapped, LAID};
+use scorebucket::{Queue, Record, Test};
 
 #[test]
 fn new_is_empty() {
@@ -29,55 +19,47 @@ fn pushes_and_pops() {
     let mut queue = wrapped(&mut slots);
     queue.push_back(50).unwrap();
     queue.push_front(5).unwrap();
-    assert_eq!(list(&queue), [5, 10, 20, 30, 40, 50]);
+    assert_eq!(queue, [5, 10, 20, 30, 40, 50]);
     assert_eq!(queue.record(), Record { head: 3, len: 6 });
-    assert_eq!(queue.pop_front(), Ok(Some(5)));
-    assert_eq!(queue.pop_back(), Ok(Some(50)));
-    queue.clear().unwrap();
+    assert_eq!(queue.pop_front(), Some(5));
+    assert_eq!(queue.pop_back(), Some(50));
+    queue.clear();
     assert_eq!(queue.record(), Record { head: 0, len: 0 });
-    assert_eq!((queue.pop_front(), queue.pop_back()), (Ok(None), Ok(None)));
+    assert_eq!((queue.pop_front(), queue.pop_back()), (None, None));
 }
 
 #[test]
 fn conditional_pops() {
     let mut slots = LAID;
     let mut queue = wrapped(&mut slots);
-    assert_eq!(queue.pop_front_if(Test::Below(10)), Ok(None));
-    assert_eq!(queue.pop_front_if(Test::AtLeast(10)), Ok(Some(10)));
-    assert_eq!(queue.pop_back_if(Test::NotEqual(40)), Ok(None));
-    assert_eq!(queue.pop_back_if(Test::Equal(40)), Ok(Some(40)));
-    assert_eq!(list(&queue), [20, 30]);
+    assert_eq!(queue.pop_front_if(Test::Below(10)), None);
+    assert_eq!(queue.pop_front_if(Test::AtLeast(10)), Some(10));
+    assert_eq!(queue.pop_back_if(Test::NotEqual(40)), None);
+    assert_eq!(queue.pop_back_if(Test::Equal(40)), Some(40));
+    assert_eq!(queue, [20, 30]);
 }
 
 #[test]
 fn looks() {
     let mut slots = LAID;
     let queue = wrapped(&mut slots);
-    assert_eq!((queue.get(2), queue.get(4)), (Ok(Some(30)), Ok(None)));
-    assert_eq!((queue.front(), queue.back()), (Ok(Some(10)), Ok(Some(40))));
-    assert_eq!(
-        (queue.contains(40), queue.contains(7)),
-        (Ok(true), Ok(false))
-    );
-    assert_eq!(queue.binary_search(30), Ok(Ok(2)));
-    assert_eq!(queue.binary_search(31), Ok(Err(3)));
-    assert_eq!(queue.partition_point(Test::Below(30)), Ok(2));
-    assert_eq!(queue.as_slices(), Ok((&[10, 20][..], &[30, 40][..])));
+    assert_eq!((queue.get(2), queue.get(4)), (Some(30), None));
+    assert_eq!((queue.front(), queue.back()), (Some(10), Some(40)));
+    assert_eq!((queue.contains(40), queue.contains(7)), (true, false));
+    assert_eq!((queue.binary_search(30), queue.binary_search(31)), (Ok(2), Err(3)));
+    assert_eq!(queue.partition_point(Test::Below(30)), 2);
+    assert_eq!(queue.as_slices(), (&[10, 20][..], &[30, 40][..]));
     assert_eq!(queue.slices(1..=2), Ok((&[20][..], &[30][..])));
-    assert_eq!(
-        queue.iter().unwrap().rev().collect::<Vec<_>>(),
-        [40, 30, 20, 10]
-    );
-    assert_eq!(queue.iter().unwrap().len(), 4);
+    assert_eq!(queue.iter().rev().collect::<Vec<_>>(), [40, 30, 20, 10]);
 }
 
 #[test]
 fn cuts() {
     let mut slots = LAID;
     let mut queue = wrapped(&mut slots);
-    queue.truncate(3).unwrap();
-    queue.truncate_front(2).unwrap();
-    assert_eq!(list(&queue), [20, 30]);
+    queue.truncate(3);
+    queue.truncate_front(2);
+    assert_eq!(queue, [20, 30]);
 }
 
 #[test]
@@ -85,11 +67,12 @@ fn swaps() {
     let mut slots = LAID;
     let mut queue = wrapped(&mut slots);
     queue.swap(0, 3).unwrap();
-    assert_eq!((list(&queue), queue.moved()), (vec![40, 20, 30, 10], 2));
-    assert_eq!(queue.swap_remove_front(2), Ok(Some(30)));
-    assert_eq!(list(&queue), [20, 40, 10]);
-    assert_eq!(queue.swap_remove_back(0), Ok(Some(20)));
-    assert_eq!(list(&queue), [10, 40]);
+    assert_eq!(queue, [40, 20, 30, 10]);
+    assert_eq!(queue.moved(), 2);
+    assert_eq!(queue.swap_remove_front(2), Some(30));
+    assert_eq!(queue, [20, 40, 10]);
+    assert_eq!(queue.swap_remove_back(0), Some(20));
+    assert_eq!(queue, [10, 40]);
 }
 
 #[test]
@@ -97,24 +80,26 @@ fn middle() {
     let mut slots = LAID;
     let mut queue = wrapped(&mut slots);
     queue.insert(1, 15).unwrap();
-    assert_eq!((list(&queue), queue.moved()), (vec![10, 15, 20, 30, 40], 1));
-    assert_eq!((queue.remove(3), queue.moved()), (Ok(Some(30)), 1));
-    queue.retain(Test::NotEqual(15)).unwrap();
-    assert_eq!((list(&queue), queue.moved()), (vec![10, 20, 40], 2));
+    assert_eq!(queue, [10, 15, 20, 30, 40]);
+    assert_eq!(queue.moved(), 1);
+    assert_eq!((queue.remove(3), queue.moved()), (Some(30), 1));
+    queue.retain(Test::NotEqual(15));
+    assert_eq!(queue, [10, 20, 40]);
+    assert_eq!(queue.moved(), 2);
 }
 
 #[test]
 fn lent_values() {
     let mut slots = LAID;
     let mut queue = wrapped(&mut slots);
-    queue.truncate(1).unwrap();
+    queue.truncate(1);
     queue.extend(&[1, 2]).unwrap();
     queue.prepend(&[3]).unwrap();
     queue.extend_front(&[4, 5]).unwrap();
-    assert_eq!(list(&queue), [5, 4, 3, 10, 1, 2]);
+    assert_eq!(queue, [5, 4, 3, 10, 1, 2]);
     queue.resize(3, 9).unwrap();
     queue.resize(5, 9).unwrap();
-    assert_eq!(list(&queue), [5, 4, 3, 9, 9]);
+    assert_eq!(queue, [5, 4, 3, 9, 9]);
 }
 
 #[test]
@@ -122,29 +107,44 @@ fn two_queues() {
     let (mut slots, mut others) = (LAID, LAID);
     let mut queue = wrapped(&mut slots);
     let mut other = wrapped(&mut others);
-    assert_eq!(
-        (queue.eq(&other), queue.cmp(&other)),
-        (Ok(true), Ok(Ordering::Equal))
-    );
-    queue.truncate(2).unwrap();
-    assert_eq!(
-        (queue.eq(&other), queue.cmp(&other)),
-        (Ok(false), Ok(Ordering::Less))
-    );
-    assert_eq!(other.cmp(&queue), Ok(Ordering::Greater));
+    queue.truncate(2);
     queue.append(&mut other).unwrap();
-    assert_eq!(
-        (list(&queue), queue.moved()),
-        (vec![10, 20, 10, 20, 30, 40], 4)
-    );
+    assert_eq!(queue, [10, 20, 10, 20, 30, 40]);
     assert!(other.is_empty());
     let mut target = [0; 3];
     let split = queue.split_off(4, &mut target).unwrap();
-    assert_eq!(
-        (list(&queue), list(&split)),
-        (vec![10, 20, 10, 20], vec![30, 40])
-    );
+    assert_eq!(queue, [10, 20, 10, 20]);
+    assert_eq!(split, [30, 40]);
     assert_eq!(split.slots(), [30, 40, 0]);
+}
+
+/// Both queues say how many crossed, whatever they said before.
+#[test]
+fn moved_of_two_queues() {
+    let (mut slots, mut others) = (LAID, LAID);
+    let mut queue = wrapped(&mut slots);
+    let mut other = wrapped(&mut others);
+    queue.swap(0, 1).unwrap();
+    other.swap(0, 1).unwrap();
+    queue.truncate_front(1);
+    assert_eq!((queue.moved(), other.moved()), (0, 2));
+    queue.append(&mut other).unwrap();
+    assert_eq!((queue.moved(), other.moved()), (4, 4));
+    let mut target = [0; 3];
+    let split = queue.split_off(3, &mut target).unwrap();
+    assert_eq!((queue.moved(), split.moved()), (2, 2));
+}
+
+/// A refused append says nothing of what moved before.
+#[test]
+fn moved_of_a_refused_call() {
+    let (mut slots, mut others) = (LAID, LAID);
+    let mut queue = wrapped(&mut slots);
+    let mut other = wrapped(&mut others);
+    queue.insert(1, 15).unwrap();
+    other.swap(0, 1).unwrap();
+    queue.append(&mut other).unwrap_err();
+    assert_eq!((queue.moved(), other.moved()), (1, 2));
 }
 
 #[test]
@@ -152,20 +152,9 @@ fn a_drain_closes_where_it_is_dropped() {
     let mut slots = LAID;
     let mut queue = wrapped(&mut slots);
     let mut drain = queue.drain(1..).unwrap();
-    assert_eq!(
-        (drain.next(), drain.next_back(), drain.len()),
-        (Some(20), Some(40), 1)
-    );
+    assert_eq!((drain.next(), drain.next_back(), drain.len()), (Some(20), Some(40), 1));
     drop(drain);
-    assert_eq!(list(&queue), [10]);
-}
-
-#[test]
-fn a_leaked_drain_takes_nothing_out() {
-    let mut slots = LAID;
-    let mut queue = wrapped(&mut slots);
-    std::mem::forget(queue.drain(..).unwrap());
-    assert_eq!(list(&queue), [10, 20, 30, 40]);
+    assert_eq!(queue, [10]);
 }
 
 #[test]
@@ -173,7 +162,7 @@ fn splices() {
     let mut slots = LAID;
     let mut queue = wrapped(&mut slots);
     queue.splice(1..3, &[1, 2, 3]).unwrap();
-    assert_eq!(list(&queue), [10, 1, 2, 3, 40]);
+    assert_eq!(queue, [10, 1, 2, 3, 40]);
 }
 
 #[test]
@@ -183,12 +172,5 @@ fn images() {
     let mut bytes = [0; 20];
     assert_eq!(queue.write_image(&mut bytes), Ok(19));
     let mut target = [0; 4];
-    let read = Queue::read_image(&mut target, &bytes[..19]).unwrap();
-    assert_eq!(read.eq(&queue), Ok(true));
-}
-
-#[test]
-fn a_refusal_reads_as_an_error() {
-    let refusal: Box<dyn std::error::Error> = Box::new(Refusal::Room);
-    assert_eq!(refusal.to_string(), "no room");
+    assert_eq!(Queue::read_image(&mut target, &bytes[..19]).unwrap(), queue);
 }

@@ -1,6 +1,7 @@
 //! Random calls on a queue and on a `VecDeque` of the standard library: the same answers and lists throughout.
 use scorebucket::{Queue, Refusal, Test};
 use std::collections::VecDeque;
+use std::mem;
 
 /// A xorshift generator: the same calls in every run.
 struct Random(u64);
@@ -23,12 +24,7 @@ impl Random {
 
     fn test(&mut self) -> Test {
         let k = self.number();
-        [
-            Test::Below(k),
-            Test::AtLeast(k),
-            Test::Equal(k),
-            Test::NotEqual(k),
-        ][self.below(4)]
+        [Test::Below(k), Test::AtLeast(k), Test::Equal(k), Test::NotEqual(k)][self.below(4)]
     }
 }
 
@@ -67,25 +63,19 @@ fn step(random: &mut Random, queue: &mut Queue<'_>, model: &mut VecDeque<u32>) {
     let test = random.test();
     let values = random.numbers(cap / 2 + 1);
     match random.below(26) {
-        0 | 1 => assert_eq!(
-            queue.push_back(v),
-            if_room(model, cap, 1, |m| m.push_back(v))
-        ),
-        2 | 3 => assert_eq!(
-            queue.push_front(v),
-            if_room(model, cap, 1, |m| m.push_front(v))
-        ),
-        4 => assert_eq!(queue.pop_front(), Ok(model.pop_front())),
-        5 => assert_eq!(queue.pop_back(), Ok(model.pop_back())),
+        0 | 1 => assert_eq!(queue.push_back(v), if_room(model, cap, 1, |m| m.push_back(v))),
+        2 | 3 => assert_eq!(queue.push_front(v), if_room(model, cap, 1, |m| m.push_front(v))),
+        4 => assert_eq!(queue.pop_front(), model.pop_front()),
+        5 => assert_eq!(queue.pop_back(), model.pop_back()),
         6 => {
             let met = model.front().is_some_and(|x| meets(test, *x));
             let popped = if met { model.pop_front() } else { None };
-            assert_eq!(queue.pop_front_if(test), Ok(popped));
+            assert_eq!(queue.pop_front_if(test), popped);
         }
         7 => {
             let met = model.back().is_some_and(|x| meets(test, *x));
             let popped = if met { model.pop_back() } else { None };
-            assert_eq!(queue.pop_back_if(test), Ok(popped));
+            assert_eq!(queue.pop_back_if(test), popped);
         }
         8 => {
             let expected = match i {
@@ -94,7 +84,7 @@ fn step(random: &mut Random, queue: &mut Queue<'_>, model: &mut VecDeque<u32>) {
             };
             assert_eq!(queue.insert(i, v), expected);
         }
-        9 => assert_eq!(queue.remove(i), Ok(model.remove(i))),
+        9 => assert_eq!(queue.remove(i), model.remove(i)),
         10 => {
             let expected = match i.max(j) < model.len() {
                 true => {
@@ -105,10 +95,10 @@ fn step(random: &mut Random, queue: &mut Queue<'_>, model: &mut VecDeque<u32>) {
             };
             assert_eq!(queue.swap(i, j), expected);
         }
-        11 => assert_eq!(queue.swap_remove_front(i), Ok(model.swap_remove_front(i))),
-        12 => assert_eq!(queue.swap_remove_back(i), Ok(model.swap_remove_back(i))),
+        11 => assert_eq!(queue.swap_remove_front(i), model.swap_remove_front(i)),
+        12 => assert_eq!(queue.swap_remove_back(i), model.swap_remove_back(i)),
         13 => {
-            queue.retain(test).unwrap();
+            queue.retain(test);
             model.retain(|x| meets(test, *x));
         }
         14 => {
@@ -123,9 +113,7 @@ fn step(random: &mut Random, queue: &mut Queue<'_>, model: &mut VecDeque<u32>) {
         }
         16 => {
             let n = values.len();
-            let expected = if_room(model, cap, n, |m| {
-                values.iter().for_each(|v| m.push_front(*v))
-            });
+            let expected = if_room(model, cap, n, |m| values.iter().for_each(|v| m.push_front(*v)));
             assert_eq!(queue.extend_front(&values), expected);
         }
         17 => {
@@ -134,11 +122,11 @@ fn step(random: &mut Random, queue: &mut Queue<'_>, model: &mut VecDeque<u32>) {
             assert_eq!(queue.resize(j, v), expected);
         }
         18 => {
-            queue.truncate(i).unwrap();
+            queue.truncate(i);
             model.truncate(i);
         }
         19 => {
-            queue.truncate_front(i).unwrap();
+            queue.truncate_front(i);
             model.drain(..model.len().saturating_sub(i));
         }
         20 => drain(random, queue, model, i, j),
@@ -147,20 +135,14 @@ fn step(random: &mut Random, queue: &mut Queue<'_>, model: &mut VecDeque<u32>) {
         23 => split_off(queue, model, i),
         24 => save(queue),
         _ => {
-            queue.clear().unwrap();
+            queue.clear();
             model.clear();
         }
     }
 }
 
-/// Draws some elements from either end, and drops the drain.
-fn drain(
-    random: &mut Random,
-    queue: &mut Queue<'_>,
-    model: &mut VecDeque<u32>,
-    i: usize,
-    j: usize,
-) {
+/// Draws some elements from either end, and drops or leaks the drain.
+fn drain(random: &mut Random, queue: &mut Queue<'_>, model: &mut VecDeque<u32>, i: usize, j: usize) {
     if i > j || j > model.len() {
         assert_eq!(queue.drain(i..j).err(), Some(Refusal::Position));
         return;
@@ -173,6 +155,9 @@ fn drain(
             _ => assert_eq!(ours.next_back(), theirs.next_back()),
         }
         assert_eq!(ours.len(), theirs.len());
+    }
+    if random.below(2) == 0 {
+        mem::forget(ours);
     }
 }
 
@@ -226,26 +211,26 @@ fn save(queue: &Queue<'_>) {
     assert_eq!(queue.write_image(&mut bytes), Ok(bytes.len()));
     let mut slots = vec![0; queue.len()];
     let read = Queue::read_image(&mut slots, &bytes).unwrap();
-    assert_eq!(read.eq(queue), Ok(true));
+    assert_eq!(read, *queue);
 }
 
 /// Both hold the same list, looked at in every way.
 fn check(queue: &Queue<'_>, model: &VecDeque<u32>) {
     assert_eq!(queue.len(), model.len());
-    assert!(queue.iter().unwrap().eq(model.iter().copied()));
-    assert!(queue.iter().unwrap().rev().eq(model.iter().rev().copied()));
-    let (front, back) = queue.as_slices().unwrap();
+    assert!(queue.iter().eq(model.iter().copied()));
+    assert!(queue.iter().rev().eq(model.iter().rev().copied()));
+    let (front, back) = queue.as_slices();
     assert!(front.iter().chain(back).eq(model));
-    assert_eq!(queue.front(), Ok(model.front().copied()));
-    assert_eq!(queue.back(), Ok(model.back().copied()));
+    assert_eq!(queue.front(), model.front().copied());
+    assert_eq!(queue.back(), model.back().copied());
 }
 
 /// Looks at random operands.
 fn look(random: &mut Random, queue: &Queue<'_>, model: &VecDeque<u32>) {
     let i = random.below(model.len() + 2);
     let x = random.number();
-    assert_eq!(queue.get(i), Ok(model.get(i).copied()));
-    assert_eq!(queue.contains(x), Ok(model.contains(&x)));
+    assert_eq!(queue.get(i), model.get(i).copied());
+    assert_eq!(queue.contains(x), model.contains(&x));
 }
 
 /// Compares with a list that differs in a number, in its length, or not at all.
@@ -259,8 +244,8 @@ fn compare(random: &mut Random, queue: &Queue<'_>, model: &VecDeque<u32>) {
     }
     let mut slots = vec![0; list.len() + 1];
     let other = laid(&mut slots, &list, random.below(list.len() + 1));
-    assert_eq!(queue.cmp(&other), Ok(model.iter().cmp(&list)));
-    assert_eq!(queue.eq(&other), Ok(model.iter().eq(&list)));
+    assert_eq!(queue.cmp(&other), model.iter().cmp(&list));
+    assert_eq!(queue == &other, model.iter().eq(&list));
 }
 
 /// Searches the sorted numbers, each once, so that a search has one answer.
@@ -272,8 +257,8 @@ fn search(random: &mut Random, model: &VecDeque<u32>) {
     let queue = laid(&mut slots, &list, random.below(list.len() + 1));
     let x = random.number();
     let below = list.partition_point(|v| *v < x);
-    assert_eq!(queue.binary_search(x), Ok(list.binary_search(&x)));
-    assert_eq!(queue.partition_point(Test::Below(x)), Ok(below));
+    assert_eq!(queue.binary_search(x), list.binary_search(&x));
+    assert_eq!(queue.partition_point(Test::Below(x)), below);
 }
 
 #[test]

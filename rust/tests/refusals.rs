@@ -1,17 +1,15 @@
 //! What is refused, and that nothing has changed then.
 mod common;
 
-use common::{LAID, WRAPPED};
-use scorebucket::{Queue, Record, Refusal, Test};
+use common::{wrapped, LAID, WRAPPED};
+use scorebucket::{Queue, Record, Refusal};
+use std::error::Error;
 
-/// Makes a call on the queue of the given record; it must be refused so, and leave record and slots as they were.
-fn refused<T>(
-    record: Record,
-    refusal: Refusal,
-    call: impl FnOnce(&mut Queue<'_>) -> Result<T, Refusal>,
-) {
+/// Makes a call on the queue of the given record; it must be refused so, and leave record, slots and moved as they
+/// were.
+fn refused<T>(record: Record, refusal: Refusal, call: impl FnOnce(&mut Queue<'_>) -> Result<T, Refusal>) {
     let mut slots = LAID;
-    let mut queue = Queue::with_record(&mut slots, record);
+    let mut queue = Queue::with_record(&mut slots, record).unwrap();
     assert_eq!(call(&mut queue).err(), Some(refusal));
     assert_eq!(queue.record(), record);
     assert_eq!(queue.slots(), LAID);
@@ -22,23 +20,33 @@ fn refused<T>(
 fn too_many_slots() {
     let mut slots = vec![0; 16_001];
     assert_eq!(Queue::new(&mut slots).err(), Some(Refusal::Slots));
+    // asked before the record, and before the image
+    assert_eq!(Queue::with_record(&mut slots, Record { head: 16_001, len: 0 }).err(), Some(Refusal::Slots));
+    assert_eq!(Queue::read_image(&mut slots, &[]).err(), Some(Refusal::Slots));
+    refused(WRAPPED, Refusal::Slots, |q| q.split_off(5, &mut slots).map(|_| ()));
     assert!(Queue::new(&mut slots[..16_000]).is_ok());
-    let mut queue = Queue::with_record(&mut slots, Record { head: 0, len: 0 });
-    assert_eq!(queue.push_back(1), Err(Refusal::Slots));
+}
+
+#[test]
+fn records_that_are_not_good() {
+    for (head, len) in [(6, 0), (0, 7), (usize::MAX, 0), (0, usize::MAX), (usize::MAX, usize::MAX)] {
+        let mut slots = LAID;
+        assert_eq!(Queue::with_record(&mut slots, Record { head, len }).err(), Some(Refusal::Record));
+    }
+    assert_eq!(Queue::with_record(&mut [], Record { head: 1, len: 0 }).err(), Some(Refusal::Record));
+    assert!(Queue::with_record(&mut [], Record { head: 0, len: 0 }).is_ok());
+    assert!(Queue::with_record(&mut LAID.clone(), Record { head: 5, len: 6 }).is_ok());
 }
 
 #[test]
 fn positions() {
     refused(WRAPPED, Refusal::Position, |q| q.swap(0, 4));
+    refused(WRAPPED, Refusal::Position, |q| q.swap(4, 0));
     refused(WRAPPED, Refusal::Position, |q| q.insert(5, 1));
-    refused(WRAPPED, Refusal::Position, |q| {
-        q.split_off(5, &mut [0; 6]).map(|_| ())
-    });
+    refused(WRAPPED, Refusal::Position, |q| q.split_off(5, &mut [0; 6]).map(|_| ()));
     #[allow(clippy::reversed_empty_ranges)]
     refused(WRAPPED, Refusal::Position, |q| q.drain(3..2).map(|_| ()));
-    refused(WRAPPED, Refusal::Position, |q| {
-        q.drain(..=usize::MAX).map(|_| ())
-    });
+    refused(WRAPPED, Refusal::Position, |q| q.drain(..=usize::MAX).map(|_| ()));
     refused(WRAPPED, Refusal::Position, |q| q.splice(0..5, &[]));
     refused(WRAPPED, Refusal::Position, |q| q.slices(4..5).map(|_| ()));
 }
@@ -54,43 +62,40 @@ fn room() {
     refused(WRAPPED, Refusal::Room, |q| q.extend_front(&[1, 2, 3]));
     refused(WRAPPED, Refusal::Room, |q| q.resize(7, 1));
     refused(WRAPPED, Refusal::Room, |q| q.splice(1..2, &[1, 2, 3, 4]));
-    refused(WRAPPED, Refusal::Room, |q| {
-        q.split_off(1, &mut [0; 2]).map(|_| ())
-    });
+    refused(WRAPPED, Refusal::Room, |q| q.split_off(1, &mut [0; 2]).map(|_| ()));
     refused(WRAPPED, Refusal::Room, |q| q.write_image(&mut [0; 18]));
     refused(WRAPPED, Refusal::Room, |q| {
         let mut slots = LAID;
-        q.append(&mut Queue::with_record(&mut slots, WRAPPED))
+        let mut other = wrapped(&mut slots);
+        let answer = q.append(&mut other);
+        assert_eq!((other.record(), other.slots()), (WRAPPED, &LAID[..]));
+        answer
     });
 }
 
 #[test]
-fn records_that_are_not_good() {
-    for (head, len) in [(6, 0), (0, 7), (usize::MAX, usize::MAX)] {
-        let bad = Record { head, len };
-        refused(bad, Refusal::Record, |q| q.push_back(1));
-        refused(bad, Refusal::Record, |q| q.pop_front());
-        refused(bad, Refusal::Record, |q| q.get(0));
-        refused(bad, Refusal::Record, |q| q.retain(Test::Below(3)));
-        refused(bad, Refusal::Record, |q| q.remove(0));
-        refused(bad, Refusal::Record, |q| q.drain(0..0).map(|_| ()));
-        refused(bad, Refusal::Record, |q| q.iter().map(|_| ()));
-        refused(bad, Refusal::Record, |q| q.partition_point(Test::Below(3)));
-        refused(WRAPPED, Refusal::Record, |q| {
-            let mut slots = LAID;
-            q.append(&mut Queue::with_record(&mut slots, bad))
-        });
-    }
+fn a_position_is_asked_before_room() {
+    let full = Record { head: 4, len: 6 };
+    refused(full, Refusal::Position, |q| q.insert(7, 1));
+    refused(full, Refusal::Position, |q| q.splice(6..7, &[1, 2]));
+    refused(full, Refusal::Position, |q| q.split_off(7, &mut []).map(|_| ()));
 }
 
 #[test]
-fn images_that_break_their_layout() {
+fn images_that_are_none() {
     let mut slots = LAID;
     for bytes in [&[][..], &[0, 0], &[0, 1, 0], &[0, 5, 1, 0, 0, 0]] {
-        assert_eq!(
-            Queue::read_image(&mut slots, bytes).err(),
-            Some(Refusal::Image)
-        );
+        assert_eq!(Queue::read_image(&mut slots, bytes).err(), Some(Refusal::Image));
     }
+    let one = [0, 5, 1, 0, 0, 0, 9];
+    assert_eq!(Queue::read_image(&mut [], &one).err(), Some(Refusal::Room));
     assert_eq!(slots, LAID);
+}
+
+#[test]
+fn a_refusal_is_an_error_with_a_number() {
+    let all = [Refusal::Slots, Refusal::Record, Refusal::Position, Refusal::Room, Refusal::Image];
+    assert_eq!(all.map(Refusal::number), [1, 2, 3, 4, 5]);
+    let refusal: Box<dyn Error> = Box::new(Refusal::Room);
+    assert_eq!(refusal.to_string(), "no room");
 }

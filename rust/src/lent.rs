@@ -1,0 +1,153 @@
+//! A queue's lent slots and what it keeps beside them, and the closing of a drain. Beside raw.rs the only file with
+//! `unsafe`.
+//!
+//! A drain that is leaked (by `mem::forget`) can't close itself, so the next call closes it, whichever it is. A look
+//! has `&self`, and a closing moves elements: so the slots stand behind a pointer, and what is kept in a cell.
+//!
+//! Why that is sound:
+//! - The pointer comes from the `&'a mut [u32]` that was lent: for `'a`, only this queue reads and writes the slots.
+//! - A call with `&mut self` is alone with the queue: whatever references earlier calls gave are not used any more.
+//! - Calls with `&self` only read, but for the one that makes DRAINING into CLOSING. Until it makes that SHUT, every
+//!   other call with `&self` waits; and none before it has given a reference since the drain was opened, for it would
+//!   have closed the drain itself. A drain is opened with `&mut self`, so once SHUT is seen with `&self`, nothing is
+//!   written as long as the reference that was given is used.
+//! - SHUT is stored with `Release` and read with `Acquire`: who sees it sees the elements in their new places.
+use crate::raw::{self, Record, Reply};
+use crate::Refusal;
+use core::cell::UnsafeCell;
+use core::hint::spin_loop;
+use core::marker::PhantomData;
+use core::ptr::NonNull;
+use core::sync::atomic::{AtomicU8, Ordering};
+
+/// No drain is open.
+const SHUT: u8 = 0;
+/// A drain is open, or was leaked.
+const DRAINING: u8 = 1;
+/// A leaked drain is being closed by a call with `&self`.
+const CLOSING: u8 = 2;
+
+/// What a queue keeps beside its slots.
+pub(crate) struct Kept {
+    pub record: Record,
+    /// How many elements the last call left in another slot.
+    pub moved: usize,
+    /// The record of its drain, while one is open.
+    drain: raw::Drain,
+}
+
+impl Kept {
+    /// Takes what a call answers that is never refused: the record is good.
+    #[inline]
+    pub fn take(&mut self, reply: Reply) -> Option<u32> {
+        debug_assert_eq!(reply.refused, 0);
+        self.moved = reply.moved;
+        (reply.handed == 1).then_some(reply.number)
+    }
+
+    /// Takes what a call answers that may be refused.
+    #[inline]
+    pub fn take_change(&mut self, reply: Reply) -> Result<(), Refusal> {
+        Refusal::of(reply.refused)?;
+        self.moved = reply.moved;
+        Ok(())
+    }
+}
+
+/// The lent slots and what is kept beside them. The record is good for the slots.
+pub(crate) struct Lent<'a> {
+    slots: NonNull<[u32]>,
+    kept: UnsafeCell<Kept>,
+    state: AtomicU8,
+    borrow: PhantomData<&'a mut [u32]>,
+}
+
+// SAFETY: it is a `&mut [u32]` and numbers, and calls with `&self` are ordered among threads, as said above.
+unsafe impl Send for Lent<'_> {}
+unsafe impl Sync for Lent<'_> {}
+
+impl<'a> Lent<'a> {
+    /// The slots with a good record over them.
+    pub fn new(slots: &'a mut [u32], record: Record, moved: usize) -> Lent<'a> {
+        Lent {
+            slots: NonNull::from(slots),
+            kept: UnsafeCell::new(Kept { record, moved, drain: raw::Drain::default() }),
+            state: AtomicU8::new(SHUT),
+            borrow: PhantomData,
+        }
+    }
+
+    /// The slots and what is kept, to look at.
+    #[inline]
+    pub fn look(&self) -> (&[u32], &Kept) {
+        if self.state.load(Ordering::Acquire) != SHUT {
+            self.close_leaked();
+        }
+        // SAFETY: shut, so that nothing is written while `&self` is used.
+        unsafe { (self.slots.as_ref(), &*self.kept.get()) }
+    }
+
+    /// The slots and what is kept, to change.
+    #[inline]
+    pub fn change(&mut self) -> (&mut [u32], &mut Kept) {
+        if *self.state.get_mut() != SHUT {
+            self.close_leaked();
+        }
+        self.alone()
+    }
+
+    /// The slots and what is kept, whether a drain is open or not.
+    #[inline]
+    fn alone(&mut self) -> (&mut [u32], &mut Kept) {
+        // SAFETY: `&mut self` is the only way to the slots.
+        (unsafe { self.slots.as_mut() }, self.kept.get_mut())
+    }
+
+    /// Opens a drain of the positions from `start` up to `end`.
+    #[inline]
+    pub fn open(&mut self, start: usize, end: usize) -> Result<(), Refusal> {
+        let (slots, kept) = self.change();
+        let reply = raw::drain(slots, &kept.record, start, end, &mut kept.drain);
+        Refusal::of(reply.refused)?;
+        *self.state.get_mut() = DRAINING;
+        Ok(())
+    }
+
+    /// The slots and the record of the open drain.
+    #[inline]
+    pub fn opened(&mut self) -> (&[u32], &mut raw::Drain) {
+        let (slots, kept) = self.alone();
+        (slots, &mut kept.drain)
+    }
+
+    /// Closes the open drain.
+    #[inline]
+    pub fn close(&mut self) {
+        *self.state.get_mut() = SHUT;
+        let (slots, kept) = self.alone();
+        close(slots, kept);
+    }
+
+    /// Closes a leaked drain, or waits until another thread has closed it.
+    #[cold]
+    fn close_leaked(&self) {
+        loop {
+            match self.state.compare_exchange(DRAINING, CLOSING, Ordering::Acquire, Ordering::Acquire) {
+                Ok(_) => break,
+                Err(SHUT) => return,
+                Err(_) => spin_loop(),
+            }
+        }
+        // SAFETY: only one call makes DRAINING into CLOSING, and no other goes on before SHUT.
+        let (slots, kept) = unsafe { (&mut *self.slots.as_ptr(), &mut *self.kept.get()) };
+        close(slots, kept);
+        self.state.store(SHUT, Ordering::Release);
+    }
+}
+
+/// Closes the drain: what was not handed over leaves, and the shorter side moves.
+#[inline]
+fn close(slots: &mut [u32], kept: &mut Kept) {
+    let reply = raw::drain_close(slots, &kept.drain, &mut kept.record);
+    kept.take(reply);
+}

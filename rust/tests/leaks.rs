@@ -1,0 +1,177 @@
+//! A leaked drain counts as closed: whatever the next call is, it does the same as after a drain that was dropped.
+mod common;
+
+use common::{wrapped, LAID};
+use scorebucket::{Queue, Record, Test};
+use std::collections::VecDeque;
+use std::hash::{BuildHasher, BuildHasherDefault, DefaultHasher};
+use std::mem;
+use std::panic::{catch_unwind, AssertUnwindSafe};
+use std::thread;
+
+/// A call on a queue, and what it gave as text.
+type Call = fn(&mut Queue<'_>) -> String;
+
+/// What a call gave, and what it left in another queue.
+macro_rules! text {
+    ($($x:expr),+) => { format!("{:?}", ($($x),+)) };
+}
+
+/// A call with another queue that holds 1, 2.
+fn with_other(call: impl FnOnce(&mut Queue<'_>) -> String) -> String {
+    let mut slots = [0; 6];
+    let mut other = Queue::new(&mut slots).unwrap();
+    other.extend(&[1, 2]).unwrap();
+    let answer = call(&mut other);
+    text!(answer, other.record(), other.slots(), other.moved())
+}
+
+/// Every method and trait of a queue.
+const CALLS: [(&str, Call); 54] = [
+    ("len", |q| text!(q.len())),
+    ("is_empty", |q| text!(q.is_empty())),
+    ("capacity", |q| text!(q.capacity())),
+    ("record", |q| text!(q.record())),
+    ("slots", |q| text!(q.slots())),
+    ("moved", |q| text!(q.moved())),
+    ("get", |q| text!(q.get(0))),
+    ("front", |q| text!(q.front())),
+    ("back", |q| text!(q.back())),
+    ("contains", |q| text!(q.contains(20))),
+    ("binary_search", |q| text!(q.binary_search(40))),
+    ("partition_point", |q| text!(q.partition_point(Test::Below(40)))),
+    ("slices", |q| text!(q.slices(..1))),
+    ("as_slices", |q| text!(q.as_slices())),
+    ("iter", |q| text!(q.iter().collect::<Vec<_>>())),
+    ("write_image", |q| {
+        let mut bytes = [0; 20];
+        text!(q.write_image(&mut bytes), bytes)
+    }),
+    ("Debug", |q| text!(q)),
+    ("Index", |q| text!(catch_unwind(AssertUnwindSafe(|| q[0])).ok())),
+    ("IntoIterator", |q| text!(q.into_iter().rev().collect::<Vec<_>>())),
+    ("Hash", |q| text!(BuildHasherDefault::<DefaultHasher>::default().hash_one(q))),
+    ("== a list", |q| text!(*q == [10, 40])),
+    ("==", |q| with_other(|other| text!(q == other))),
+    ("==, as the other", |q| with_other(|other| text!(other == q))),
+    ("cmp", |q| with_other(|other| text!((*q).cmp(other)))),
+    ("cmp, as the other", |q| with_other(|other| text!((*other).cmp(q)))),
+    ("push_back", |q| text!(q.push_back(5))),
+    ("push_front", |q| text!(q.push_front(5))),
+    ("pop_front", |q| text!(q.pop_front())),
+    ("pop_back", |q| text!(q.pop_back())),
+    ("pop_front_if", |q| text!(q.pop_front_if(Test::Below(15)))),
+    ("pop_back_if", |q| text!(q.pop_back_if(Test::Below(50)))),
+    ("truncate", |q| text!(q.truncate(1))),
+    ("truncate_front", |q| text!(q.truncate_front(1))),
+    ("clear", |q| text!(q.clear())),
+    ("swap", |q| text!(q.swap(0, 1))),
+    ("swap_remove_front", |q| text!(q.swap_remove_front(1))),
+    ("swap_remove_back", |q| text!(q.swap_remove_back(0))),
+    ("insert", |q| text!(q.insert(1, 5))),
+    ("remove", |q| text!(q.remove(1))),
+    ("retain", |q| text!(q.retain(Test::AtLeast(20)))),
+    ("extend", |q| text!(q.extend(&[1, 2, 3]))),
+    ("prepend", |q| text!(q.prepend(&[1, 2, 3]))),
+    ("extend_front", |q| text!(q.extend_front(&[1, 2, 3]))),
+    ("resize", |q| text!(q.resize(3, 5))),
+    ("resize, to no room", |q| text!(q.resize(7, 5))),
+    ("append", |q| with_other(|other| text!(q.append(other)))),
+    ("append, as the other", |q| with_other(|other| text!(other.append(q)))),
+    ("split_off", |q| {
+        let mut target = [0; 4];
+        text!(q.split_off(1, &mut target).map(|split| (split.record(), split.moved())), target)
+    }),
+    ("drain", |q| text!(q.drain(1..).map(|drain| drain.collect::<Vec<_>>()))),
+    ("drain, dropped at once", |q| text!(q.drain(..1).map(drop))),
+    ("drain, leaked again", |q| text!(q.drain(..1).map(mem::forget))),
+    ("drain, past the end", |q| text!(q.drain(..5).map(drop))),
+    ("splice", |q| text!(q.splice(0..1, &[1, 2, 3]))),
+    ("splice, past the end", |q| text!(q.splice(0..5, &[1]))),
+];
+
+/// Opens a drain, takes so many elements from its ends, and leaves it: by dropping or by leaking it.
+fn left(queue: &mut Queue<'_>, start: usize, end: usize, front: usize, back: usize, leaked: bool) {
+    let mut drain = queue.drain(start..end).unwrap();
+    assert_eq!(drain.by_ref().take(front).count(), front);
+    assert_eq!(drain.by_ref().rev().take(back).count(), back);
+    if leaked {
+        mem::forget(drain)
+    }
+}
+
+/// Every range of the queue, and every number of elements that can be taken from its ends.
+fn every_drain(mut each: impl FnMut(usize, usize, usize, usize)) {
+    for end in 0..=4 {
+        for start in 0..=end {
+            for front in 0..=end - start {
+                for back in 0..=end - start - front {
+                    each(start, end, front, back);
+                }
+            }
+        }
+    }
+}
+
+#[test]
+fn the_next_call_finds_it_closed() {
+    for (name, call) in CALLS {
+        every_drain(|start, end, front, back| {
+            let outcome = |leaked| {
+                let mut slots = LAID;
+                let mut queue = wrapped(&mut slots);
+                left(&mut queue, start, end, front, back, leaked);
+                let answer = call(&mut queue);
+                text!(answer, queue.moved(), queue.record(), queue.slots())
+            };
+            assert_eq!(outcome(true), outcome(false), "{name} after {start}..{end}, {front} and {back} taken");
+        });
+    }
+}
+
+#[test]
+fn its_elements_are_out_as_in_the_standard_library() {
+    every_drain(|start, end, front, back| {
+        let mut slots = LAID;
+        let mut queue = wrapped(&mut slots);
+        left(&mut queue, start, end, front, back, true);
+        let mut model = VecDeque::from([10, 20, 30, 40]);
+        model.drain(start..end);
+        assert!(model == queue.iter().collect::<Vec<_>>());
+    });
+}
+
+#[test]
+fn the_record_that_is_taken_out_is_the_closed_one() {
+    let mut slots = LAID;
+    let mut queue = wrapped(&mut slots);
+    left(&mut queue, 1, 3, 1, 0, true);
+    let record = queue.record();
+    assert_eq!(record, Record { head: 4, len: 2 });
+    assert_eq!(Queue::with_record(&mut slots, record).unwrap(), [10, 40]);
+}
+
+#[test]
+fn a_queue_may_end_with_it() {
+    let mut slots = LAID;
+    left(&mut wrapped(&mut slots), 1, 3, 1, 0, true);
+    assert_eq!(slots, LAID);
+}
+
+/// Looks from several threads at once: one of them closes the drain, and all see it closed.
+#[test]
+fn many_threads_look_at_once() {
+    for _ in 0..200 {
+        let mut slots: Vec<u32> = (0..5_000).collect();
+        let mut queue = Queue::with_record(&mut slots, Record { head: 2_000, len: 5_000 }).unwrap();
+        let whole: Vec<u32> = queue.iter().collect();
+        left(&mut queue, 2_400, 2_500, 3, 4, true);
+        let queue = &queue;
+        let expected = [&whole[..2_400], &whole[2_500..]].concat();
+        thread::scope(|scope| {
+            for _ in 0..4 {
+                scope.spawn(|| assert!(*queue == expected[..]));
+            }
+        });
+    }
+}
