@@ -1,3 +1,2 @@
--- `ByTest`: calls with a test of a kind. `Copies`: the straight copy alone.
+-- `ByTest`: calls with a test of a kind.
 pub mod ByTest
-pub mod Copies

@@ -1,3 +1,2 @@
--- A call with a test of a kind, and the straight copy alone.
+-- A call with a test of a kind.
 pub mod Kinds
-pub mod Copies

@@ -9,7 +9,6 @@ mod cutting;
 mod inserting;
 mod kinds;
 mod making;
-mod measuring;
 mod popping;
 mod pushing;
 mod swapping;

@@ -1,9 +1,9 @@
--- `exports::measuring::scorebucket_copy` meets its contract. Assumes nothing.
+-- `measured::scorebucket_copy` meets its contract. Assumes nothing.
 use native.Mathlib.Omega.{arith}
-use Rattle.exports.proofs.Copies.{starts-out, ends-out, lies-in, too-long, from-out, to-out, copies-it}
+use Rattle.measured.proofs.Copies.{starts-out, ends-out, lies-in, too-long, from-out, to-out, copies-it}
 use borrow.Author.Needs.{needs}
-use Rattle.exports.proofs.measuring.scorebucket_copy.Statement.{statement}
-use Rattle.exports.proofs.measuring.scorebucket_copy.Tie as tie
+use Rattle.measured.proofs.scorebucket_copy.Statement.{statement}
+use Rattle.measured.proofs.scorebucket_copy.Tie as tie
 
 most-slots-requires : tie.Need-most-slots-requires
 most-slots-requires c κs = search needs

@@ -8,7 +8,7 @@ use borrow.Author.Tests.{lt-ltb, le-ltb, le-leb, lt-leb}
 use lib.ListN.{length}
 use Rattle.rules.specs.Refusals.{mostSlots, onSlots}
 use Rattle.rules.specs.Choices.{ask, unless}
-use Rattle.exports.specs.Copies.{inSlots, onCopy, copiedTimes, copyTold}
+use Rattle.measured.specs.Copies.{inSlots, onCopy, copiedTimes, copyTold}
 
 module _ (c s n : ℕ) where
   pub starts-out : c ≤ s → inSlots c s n ≡ false

@@ -1,10 +1,11 @@
-// The straight copy alone, for benchmarks: what a call in the middle takes beside it is the call's own.
+// The straight copy alone, for the benchmark: what a call in the middle takes beside it is the call's own. It stands in
+// an archive of the benchmark's (sh tools/native.sh . measured), and not in that of the calls.
 use places::WrappedIndex;
 ghost use mathlib.Core.Path.{_≡_};
 ghost use Prim.Native.Nat.{_+_, _≤_, _<_};
 ghost use lib.ListN.{length};
 ghost use Rattle.rules.specs.Refusals.{mostSlots};
-ghost use Rattle.exports.specs.Copies.{copiedTimes, copyTold};
+ghost use Rattle.measured.specs.Copies.{copiedTimes, copyTold};
 
 // Copies the n slots from `src` on to `dst` so many times over.
 fn copy_times(slots: &mut [u32], src: WrappedIndex, dst: WrappedIndex, n: usize, times: usize)

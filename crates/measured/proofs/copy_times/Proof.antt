@@ -1,4 +1,4 @@
--- `exports::measuring::copy_times` meets its contract. The invariant: i copies are made. Assumes nothing.
+-- `measured::copy_times` meets its contract. The invariant: i copies are made. Assumes nothing.
 use mathlib.Core.List.{List}
 use mathlib.Core.Path.{_≡_, refl, ap, _∙_}
 use Prim.Native.Nat.{ℕ, suc, _+_, _-_, _≤_}
@@ -7,10 +7,10 @@ use lib.ListN.{length}
 use denote.Ref.{now}
 use Rattle.rules.proofs.Slots.{length-lay}
 use Rattle.rules.specs.Slots.{copied, listOf}
-use Rattle.exports.specs.Copies.{copiedTimes}
+use Rattle.measured.specs.Copies.{copiedTimes}
 use borrow.Author.Needs.{needs}
-use Rattle.exports.proofs.measuring.copy_times.Statement.{statement}
-use Rattle.exports.proofs.measuring.copy_times.Tie as tie
+use Rattle.measured.proofs.copy_times.Statement.{statement}
+use Rattle.measured.proofs.copy_times.Tie as tie
 
 abbrev Inv-loop : tie.InvT-loop
 Inv-loop slots₀ src dst n times i₀ slots i =
