@@ -228,8 +228,9 @@ struct scorebucket_reply scorebucket_drain_close(uint32_t *slots, size_t cap, co
 struct scorebucket_reply scorebucket_splice(uint32_t *slots, size_t cap, struct scorebucket_deque *q, size_t start,
     size_t end, const uint32_t *values, size_t n);
 
-/* ---- reading many elements. `slice_ranges` is the way: a loop over the two runs is a loop over plain memory. A walk
- * tests its record at every step, as `get` does, and is for callers that change sides or stop between steps. */
+/* ---- reading many elements. `slice_ranges` is the way: a loop over the two runs is a loop over plain memory, and an
+ * element takes 0.5 ns or less. A walk's step tests its record anew and takes 2 ns, where `get` takes 1.7: a walk is
+ * for a caller that comes back for one element at a time, from either end. (12,000 elements; gcc and clang, x86-64.) */
 
 /* Stores the two runs of the positions from `start` to before `end`, as parts of the slots. Gives the refusal number,
  * or 0; refused, *runs is as it was. Refusal: 3. */
