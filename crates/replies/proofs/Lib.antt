@@ -1,4 +1,6 @@
--- `Stored`: records and their words. `Arms`: how an arm of a match is read. `Crossing`: what an exported call answers.
+-- `Stored`: records and their words. `Arms`: how an arm of a match is read. `Crossing`: what an exported call that
+-- changes a record answers. `CrossingLooks`: what one that only looks does.
 pub mod Stored
 pub mod Arms
 pub mod Crossing
+pub mod CrossingLooks
