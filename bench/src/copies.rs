@@ -2,6 +2,7 @@
 use crate::timing;
 use std::hint::black_box;
 
+// in an archive of its own, of the crate `measured`: see build.rs
 unsafe extern "C" {
     fn scorebucket_copy(slots: *mut u32, slots_len: usize, src: usize, dst: usize, n: usize, times: usize) -> u16;
 }

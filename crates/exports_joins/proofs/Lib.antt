@@ -1,2 +1,2 @@
--- `Pairs`: what an exported call that opens a drain, or is on two queues, answers.
+-- `Pairs`: what an exported call on two queues answers.
 pub mod Pairs

@@ -1,11 +1,9 @@
--- An exported call that opens a drain, or is on two queues, answers as the call below it: r is the record that the call
+-- An exported call on two queues answers as the call below it: r is the record that the call
 -- below was given, r′ the one in the caller's words, old those words, p what is said. Assumes nothing.
 use mathlib.Core.List.{List}
 use mathlib.Core.Path.{_≡_, _∙_, ap}
 use Prim.Native.Nat.{ℕ}
-use Rattle.replies.proofs.Crossing.{on-record}
-use Rattle.replies.specs.InC.{Said, answerInC, toldInC, pairInC, pairToldInC}
-use Rattle.rules.specs.Outcome.{Answer, doOpen, told}
+use Rattle.replies.specs.InC.{Said, pairInC, pairToldInC}
 use Rattle.rules.specs.Pairs.{PairAnswer, PairOutcome, toldPair, doAppend, doSplit}
 use Rattle.rules.specs.Records.{Rec}
 
@@ -13,11 +11,6 @@ abbrev Words : Type 0
 Words = List ℕ
 
 module _ (b : List ℕ) (r r′ : Rec) (same : r ≡ r′) (old : Words) (p : Said) where
-  pub opens : (x y : ℕ) (w : Words) (a : Answer) (s : List ℕ) → (p, w) ≡ answerInC old a
-      → (a, s) ≡ told (doOpen b r x y) → (p, w, s) ≡ toldInC old (doOpen b r′ x y)
-  opens x y w a s flat is =
-      on-record old p w a s (doOpen b r x y) (doOpen b r′ x y) (ap (λ (z : Rec). doOpen b z x y) same) flat is
-
   -- two records, w′ the other's words, and the slots s and t
   pairs : (old′ w w′ : Words) (a : PairAnswer) (s t : List ℕ) (m m′ : PairOutcome) → m ≡ m′
       → (p, w, w′) ≡ pairInC old old′ a

@@ -1,0 +1,2 @@
+-- `Writing`: what an image that is written leaves.
+pub mod Writing

@@ -1,0 +1,2 @@
+-- Image writing, as a caller from C gets it.
+pub mod Images

@@ -1,0 +1,2 @@
+-- `partition_point` by a test of a kind.
+pub mod Kinds

@@ -1,0 +1,2 @@
+-- `ByTest`: calls with a test of a kind.
+pub mod ByTest

@@ -1,0 +1,2 @@
+-- A call with a test of a kind.
+pub mod Kinds

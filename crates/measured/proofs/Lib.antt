@@ -1,0 +1,2 @@
+-- `Copies`: one law for each outcome of the copy.
+pub mod Copies

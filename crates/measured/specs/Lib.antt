@@ -1,0 +1,2 @@
+-- The straight copy alone.
+pub mod Copies
