@@ -2,8 +2,12 @@
 use crate::playing::Advanced;
 use crate::playing::Playing;
 use crate::steps::step;
+ghost use mathlib.Core.Path.{_≡_};
 ghost use Prim.Native.Nat.{_≤_};
 ghost use lib.ListN.{length};
+ghost use Rattle.lines.specs.Puts.{Puts};
+ghost use Rattle.plays.specs.Pieces.{advanced};
+ghost use Rattle.plays.specs.Playing.{partOf, playOf};
 
 // Goes on with a replay over `bytes`, those that were read and not used yet; `last` says that no more
 // come. The lines stand from the buffer's first byte on; one of fewer than 105 bytes gets none.
@@ -13,7 +17,13 @@ pub fn advance(
     bytes: &[u8],
     last: bool,
     out: &mut [u8],
-) -> Advanced {
+) -> Advanced
+    ensures { λ r. ⌜ (let a = advanced (length (now (out .entry))) last (now (bytes .entry))
+        (playOf (now (slots .entry)) playing) in
+        (partOf (now (slots .exit)) r (a .written) ≡ a)
+        × Puts (now (out .entry)) (now (out .exit)) 0 (r .written) (a .written)) ⌝ }
+    ensures { λ r. ⌜ (r .used ≤ length (now (bytes .entry))) × (r .written ≤ length (now (out .entry))) ⌝ }
+{
     let mut done = Advanced {
         playing,
         used: 0,
@@ -25,7 +35,7 @@ pub fn advance(
     for _ in 0..out.len() {
         let after = step(slots, done, bytes, last, out);
         if after.written == done.written {
-            return done;
+            return after;
         }
         done = after;
     }
