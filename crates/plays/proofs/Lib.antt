@@ -1,0 +1,6 @@
+-- What the functions' proofs cite.
+pub mod Parts
+pub mod Records
+pub mod Elements
+pub mod Done
+pub mod Calls
