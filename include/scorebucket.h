@@ -1,8 +1,8 @@
 /* Scorebucket: a double-ended queue of uint32_t in slots that the caller lends. For C and C++ (from C99 and C++11 on).
  *
  * Link with the archive that `sh tools/native.sh . exports` makes. Every function is proved to meet its contract, which
- * this page tells in words (the contracts: crates/exports and crates/exports_.., src), for any record and any numbers:
- * what can't be done is refused, and nothing past the slots is read or written.
+ * this page tells in words (the contracts stand in crates/exports_.., src), for any record and any numbers: what can't
+ * be done is refused, and nothing past the slots is read or written.
  *
  * THE QUEUE is an array of slots and a record {head, len}. The number of slots, `cap` below, is its capacity. The first
  * element, at position 0, stands in slot `head`, the later ones in the slots behind it, and behind the last slot comes

@@ -14,8 +14,7 @@ ghost use Rattle.replies.specs.Replies.{ofTruthReply, ofOrderReply};
 pub extern "C" fn scorebucket_contains(slots: &[u32], q: &[usize; RECORD], x: u32) -> TruthReply
     ensures { λ r. ⌜ ofTruthReply r ≡ truthInC (lookAt (now (slots .entry)) (recIn (now (q .entry))) (has x)) ⌝ }
 {
-    let queue = deque_in(q);
-    replies::of_truth(comparisons::contains(slots, queue, x))
+    replies::of_truth(comparisons::contains(slots, deque_in(q), x))
 }
 
 // Whether the two queues hold the same list.

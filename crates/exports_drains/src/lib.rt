@@ -25,8 +25,7 @@ pub extern "C" fn scorebucket_drain(
     ensures { λ r. ⌜ (ofReply r, now (d .exit), now (slots .entry))
         ≡ toldInC (now (d .entry)) (doOpen (now (slots .entry)) (recIn (now (q .entry))) start end) ⌝ }
 {
-    let before = deque_in(q);
-    opened(d, drains::drain(slots, before, start, end))
+    opened(d, drains::drain(slots, deque_in(q), start, end))
 }
 
 // Hands the first remaining element over.
@@ -59,6 +58,5 @@ pub extern "C" fn scorebucket_drain_close(
     ensures { λ r. ⌜ (ofReply r, now (q .exit), now (slots .exit))
         ≡ toldInC (now (q .entry)) (doClose (now (slots .entry)) (drainIn (now (d .entry)))) ⌝ }
 {
-    let before = drain_in(d);
-    closed(q, drains::drain_close(slots, before))
+    closed(q, drains::drain_close(slots, drain_in(d)))
 }

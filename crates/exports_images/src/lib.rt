@@ -44,6 +44,5 @@ pub extern "C" fn scorebucket_write_image(
     ensures { λ r. ⌜ (ofCountReply r, now (target .exit))
         ≡ writingToldInC (now (slots .entry)) (recIn (now (q .entry))) (now (target .entry)) ⌝ }
 {
-    let queue = deque_in(q);
-    replies::of_written(images::write_image(slots, queue, target))
+    replies::of_written(images::write_image(slots, deque_in(q), target))
 }

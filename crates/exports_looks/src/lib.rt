@@ -17,8 +17,7 @@ pub extern "C" fn scorebucket_get(slots: &[u32], q: &[usize; RECORD], i: usize) 
     ensures { λ r. ⌜ ofFoundReply r
         ≡ foundInC (lookAt (now (slots .entry)) (recIn (now (q .entry))) (atPosition i)) ⌝ }
 {
-    let queue = deque_in(q);
-    replies::of_found(ends::get(slots, queue, i))
+    replies::of_found(ends::get(slots, deque_in(q), i))
 }
 
 // The first element.
@@ -27,8 +26,7 @@ pub extern "C" fn scorebucket_front(slots: &[u32], q: &[usize; RECORD]) -> Found
     ensures { λ r. ⌜ ofFoundReply r
         ≡ foundInC (lookAt (now (slots .entry)) (recIn (now (q .entry))) (atPosition 0)) ⌝ }
 {
-    let queue = deque_in(q);
-    replies::of_found(ends::front(slots, queue))
+    replies::of_found(ends::front(slots, deque_in(q)))
 }
 
 // The last element.
@@ -36,8 +34,7 @@ pub extern "C" fn scorebucket_front(slots: &[u32], q: &[usize; RECORD]) -> Found
 pub extern "C" fn scorebucket_back(slots: &[u32], q: &[usize; RECORD]) -> FoundReply
     ensures { λ r. ⌜ ofFoundReply r ≡ foundInC (lookAt (now (slots .entry)) (recIn (now (q .entry))) atBack) ⌝ }
 {
-    let queue = deque_in(q);
-    replies::of_found(ends::back(slots, queue))
+    replies::of_found(ends::back(slots, deque_in(q)))
 }
 
 // The places of the two runs of positions start..end. Gives the refusal number, or 0.
@@ -52,6 +49,5 @@ pub extern "C" fn scorebucket_slice_ranges(
     ensures { λ r. ⌜ (r, now (places .exit))
         ≡ runsInC (now (places .entry)) (lookRuns (now (slots .entry)) (recIn (now (q .entry))) start end) ⌝ }
 {
-    let queue = deque_in(q);
-    ranged(places, runs::slice_ranges(slots, queue, start, end))
+    ranged(places, runs::slice_ranges(slots, deque_in(q), start, end))
 }

@@ -38,8 +38,7 @@ pub extern "C" fn scorebucket_binary_search(
 ) -> SearchReply
     ensures { λ r. ⌜ ofSearchReply r ≡ spotInC (searchFor (now (slots .entry)) (recIn (now (q .entry))) x) ⌝ }
 {
-    let queue = deque_in(q);
-    replies::of_searched(search::binary_search(slots, queue, x))
+    replies::of_searched(search::binary_search(slots, deque_in(q), x))
 }
 
 // How many elements of a list that is parted by the test meet it.

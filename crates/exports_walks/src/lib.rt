@@ -22,8 +22,7 @@ pub extern "C" fn scorebucket_begin_walk(
     ensures { λ r. ⌜ (r, now (w .exit))
         ≡ begunInC (now (w .entry)) (beginWalk (now (slots .entry)) (recIn (now (q .entry)))) ⌝ }
 {
-    let queue = deque_in(q);
-    begun(w, walks::begin_walk(slots, queue))
+    begun(w, walks::begin_walk(slots, deque_in(q)))
 }
 
 // Gives the element at the low end, which steps on by one.

@@ -27,7 +27,7 @@ opens b r r′ same old p x y w a s flat is =
 
 returns : tie.Need-returns
 returns c =
-    opens _ _ _ (c .before .before .before .deque-in .ensures) _ _ _ _ _ _ _ (c .opened .ensures)
+    opens _ _ _ (c .before .before .deque-in .ensures) _ _ _ _ _ _ _ (c .opened .ensures)
     (c .before .drain .ensures)
 
 pub scorebucket-drain-spec : {M : Type 1} → statement M

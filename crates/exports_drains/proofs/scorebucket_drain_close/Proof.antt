@@ -20,7 +20,7 @@ same-length c = search needs
 
 returns : tie.Need-returns
 returns c =
-    on-record _ _ _ _ _ _ _ (ap (doClose _) (c .before .before .before .before .before .before .drain-in .ensures))
+    on-record _ _ _ _ _ _ _ (ap (doClose _) (c .before .before .before .before .drain-in .ensures))
     (c .closed .ensures) (c .before .before .before .drain-close .ensures)
 
 pub scorebucket-drain-close-spec : {M : Type 1} → statement M

@@ -27,7 +27,7 @@ ranges b r r′ same old p a s e flat is = crosses (runsInC old) (λ (x : Rec). 
 
 returns : tie.Need-returns
 returns c =
-    ranges _ _ _ (c .before .before .before .deque-in .ensures) _ _ _ _ _ (c .ranged .ensures)
+    ranges _ _ _ (c .before .before .deque-in .ensures) _ _ _ _ _ (c .ranged .ensures)
     (c .before .slice-ranges .ensures)
 
 pub scorebucket-slice-ranges-spec : {M : Type 1} → statement M

@@ -17,7 +17,7 @@ begun-requires c κs = search needs
 
 returns : tie.Need-returns
 returns c =
-    crosses (begunInC _) (beginWalk _) _ _ _ _ (c .before .before .before .deque-in .ensures) (c .begun .ensures)
+    crosses (begunInC _) (beginWalk _) _ _ _ _ (c .before .before .deque-in .ensures) (c .begun .ensures)
     (c .before .begin-walk .ensures)
 
 pub scorebucket-begin-walk-spec : {M : Type 1} → statement M
