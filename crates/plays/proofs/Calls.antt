@@ -5,9 +5,11 @@ use mathlib.Core.List.{List, [], _∷_, _++_}
 use mathlib.Core.Option.{Option, none, some}
 use mathlib.Core.Path.{_≡_, refl, sym, _∙_, ap, subst}
 use Prim.Native.Nat.{ℕ, zero, suc, _+_, _-_, _≤_}
+use native.Mathlib.Nat.{zero-add}
 use native.Mathlib.Omega.{arith}
 use lib.Dec.{ltb}
-use lib.ListN.{length, getElem?, length-append}
+use lib.ListN.{length, take, drop, getElem?, length-append}
+use lib.Seq.{sets-eq, take-append-seam, drop-append-seam}
 use Rattle.lines.specs.Puts.{Puts}
 use Rattle.plays.proofs.Done.{used-more, play-now, does-then, does-nothing, does-as}
 use Rattle.plays.proofs.Parts.{stay-then, then-stay, then-assoc}
@@ -177,8 +179,27 @@ module _ (last : Bool) (s : List ℕ) where
       ∙ sym (λ i. g .part then steps (none-left i) (length t0 - a .written) last s (a .used) (playOf b (a .playing)))
       ∙ g .rest) (g .does)
 
+-- what was put at a buffer's front: it stands there, and the bytes behind it are kept
+module _ (t t1 : List ℕ) (q : ℕ) (w : List ℕ) (h : Puts t t1 0 q w) (fits : q ≤ length t) where
+  long : q ≡ length w
+  long = omega (arith, h .next)
+
+  in-front : t1 ≡ w ++ drop (length w) t
+  in-front = h .stands ∙ sets-eq w t 0 (omega (arith, long)) ∙ ap (λ (k : ℕ). w ++ drop k t) (zero-add (length w))
+
+  put-front : take q t1 ≡ w
+  put-front = (λ i. take (long i) (in-front i)) ∙ take-append-seam w (drop (length w) t)
+
+  kept-behind : drop q t1 ≡ drop q t
+  kept-behind = (λ i. drop (long i) (in-front i)) ∙ drop-append-seam w (drop (length w) t)
+      ∙ ap (λ (k : ℕ). drop k t) (sym long)
+
 -- what a call has done that had done nothing before
 pub all-done : (b b1 t t1 : List ℕ) (y : Playing) (a1 : Advanced) (w : Part) → Does b b1 t t1 (fresh y) a1 w
-    → (partOf b1 a1 (w .written) ≡ w) × Puts t t1 0 (a1 .written) (w .written)
+    → a1 .written ≤ length t
+    → (partOf b1 a1 (take (a1 .written) t1) ≡ w) × (drop (a1 .written) t1 ≡ drop (a1 .written) t)
 unfolding stay
-all-done b b1 t t1 y a1 w d = (d .done ∙ stay-then (playOf b y) w, d .puts)
+all-done b b1 t t1 y a1 w d fits = (
+  ap (partOf b1 a1) (put-front t t1 (a1 .written) (w .written) (d .puts) fits) ∙ d .done ∙ stay-then (playOf b y) w,
+  kept-behind t t1 (a1 .written) (w .written) (d .puts) fits,
+)

@@ -4,3 +4,5 @@ pub mod Records
 pub mod Elements
 pub mod Done
 pub mod Calls
+pub mod Rest
+pub mod Theorems

@@ -2,3 +2,4 @@
 pub mod Whole
 pub mod Pieces
 pub mod Playing
+pub mod Ran

@@ -1,6 +1,7 @@
 -- A replay in pieces: the bytes come one piece after the other, the lines go out through a buffer. Assumes nothing.
 use mathlib.Core.Bool.{Bool, true, false}
 use mathlib.Core.List.{List, [], _∷_, _++_}
+use mathlib.Core.Path.{_≡_}
 use mathlib.Core.Option.{Option, none, some}
 use Prim.Native.Nat.{ℕ, zero, suc, _+_, _-_}
 use lib.Dec.{ltb}
@@ -50,3 +51,20 @@ steps (suc k) m last s p y =
 -- one call over the bytes s, with a buffer of m bytes: a step writes at least one
 unfoldable pub advanced : ℕ → Bool → List ℕ → Play → Part
 advanced m last s y = steps m m last s 0 y
+
+-- ---- many calls
+
+-- pieces, one behind the other
+unfoldable pub joined : List (List ℕ) → List ℕ
+joined [] = []
+joined (s ∷ ss) = s ++ joined ss
+
+-- what calls do together, from y on, each from where the last one stands: a call c has a buffer of any size m, and is
+-- given the bytes that the last one left, s at first, and the next of the pieces ss behind them, or is told that there
+-- is none
+pub data Calls : Play → List ℕ → List (List ℕ) → Part → Type 0 where
+  stop : {y : Play} {s : List ℕ} {ss : List (List ℕ)} → Calls y s ss (stay y)
+  piece : {y : Play} {s x : List ℕ} {ss : List (List ℕ)} {a : Part} (m : ℕ) (c : Part)
+      → c ≡ advanced m false (s ++ x) y → Calls (c .play) (drop (c .used) (s ++ x)) ss a → Calls y s (x ∷ ss) (c then a)
+  final : {y : Play} {s : List ℕ} {a : Part} (m : ℕ) (c : Part) → c ≡ advanced m true s y
+      → Calls (c .play) (drop (c .used) s) [] a → Calls y s [] (c then a)

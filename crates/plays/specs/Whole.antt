@@ -104,6 +104,10 @@ starting b = record { slots = b; queue = newRec 0; stage = inRecords }
 unfoldable pub replayOf : List ℕ → List ℕ → Part
 replayOf b s = replayed (length s) s 0 (starting b)
 
--- what the replay program writes: its slots are its own, and zero at first
+-- the slots of the replay program: they are its own, and zero at first
+unfoldable pub zeros : List ℕ
+zeros = replicate mostPlayed 0
+
+-- what the replay program writes for a journal s
 unfoldable pub replay : List ℕ → List ℕ
-replay s = replayOf (replicate mostPlayed 0) s .written
+replay s = replayOf zeros s .written

@@ -4,8 +4,7 @@ use crate::playing::Playing;
 use crate::steps::step;
 ghost use mathlib.Core.Path.{_≡_};
 ghost use Prim.Native.Nat.{_≤_};
-ghost use lib.ListN.{length};
-ghost use Rattle.lines.specs.Puts.{Puts};
+ghost use lib.ListN.{drop, length, take};
 ghost use Rattle.plays.specs.Pieces.{advanced};
 ghost use Rattle.plays.specs.Playing.{partOf, playOf};
 
@@ -18,10 +17,9 @@ pub fn advance(
     last: bool,
     out: &mut [u8],
 ) -> Advanced
-    ensures { λ r. ⌜ (let a = advanced (length (now (out .entry))) last (now (bytes .entry))
-        (playOf (now (slots .entry)) playing) in
-        (partOf (now (slots .exit)) r (a .written) ≡ a)
-        × Puts (now (out .entry)) (now (out .exit)) 0 (r .written) (a .written)) ⌝ }
+    ensures { λ r. ⌜ partOf (now (slots .exit)) r (take (r .written) (now (out .exit)))
+        ≡ advanced (length (now (out .entry))) last (now (bytes .entry)) (playOf (now (slots .entry)) playing) ⌝ }
+    ensures { λ r. ⌜ drop (r .written) (now (out .exit)) ≡ drop (r .written) (now (out .entry)) ⌝ }
     ensures { λ r. ⌜ (r .used ≤ length (now (bytes .entry))) × (r .written ≤ length (now (out .entry))) ⌝ }
 {
     let mut done = Advanced {

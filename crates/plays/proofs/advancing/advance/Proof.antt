@@ -2,6 +2,7 @@
 use Prim.Native.Nat.{ℕ, suc, _+_, _-_, _<_, _≤_}
 use mathlib.Core.Path.{_≡_, refl, sym, _∙_, ap}
 use native.Mathlib.Omega.{arith}
+use denote.Ref.{now}
 use lib.ListN.{length}
 use borrow.Author.Needs.{needs}
 use Rattle.plays.proofs.Calls.{Going, going-start, going-more, going-quiet, going-over, all-done}
@@ -48,11 +49,11 @@ same-length-2 c = search needs
 returns : tie.Need-returns Inv-loop μ-loop
 returns c =
     let i = c .before .before .before .before .before .before .before .before .before .before .before .loop .inv in
-    let w = c .before .before .before .before .before .before .before .step .ensures .1 in (
-      all-done _ _ _ _ _ _ _ (going-quiet _ _ _ _ _ _ _ _ _ _ _ _ _ _ (i .3) (one-more _ _ (c .before .before .before .before .before .before .before .before .before .before .loop-test .taken))
-          (i .5) (c .before .before .before .before .before .before .before .step .ensures .0) (c .if1 .taken)),
-      (w .1, omega (arith, w .2, i .3)),
-    )
+    let w = c .before .before .before .before .before .before .before .step .ensures .1 in
+    let fits : c .before .before .before .before .before .before .before .step .result .written ≤ length (now (c .before .before .before .before .before .before .before .before .before .before .before .before .before .before .before .args .out)) = omega (arith, w .2, i .3) in
+    let d = all-done _ _ _ _ _ _ _ (going-quiet _ _ _ _ _ _ _ _ _ _ _ _ _ _ (i .3)
+    (one-more _ _ (c .before .before .before .before .before .before .before .before .before .before .loop-test .taken)) (i .5) (c .before .before .before .before .before .before .before .step .ensures .0) (c .if1 .taken)) fits in
+    (d .0, (d .1, (w .1, fits)))
 
 add-counter : tie.Need-add-counter Inv-loop μ-loop
 add-counter c = omega (arith, c .before .before .before .before .before .before .before .before .before .before .loop-test .taken, c .before .before .before .before .before .before .before .before .before .before .before .loop .inv .1, c .before .before .before .before .before .before .before .before .before .before .before .before)
@@ -81,10 +82,10 @@ same-length-4 c = search needs
 
 returns-2 : tie.Need-returns-2 Inv-loop μ-loop
 returns-2 c =
-    let i = c .before .loop .inv in (
-      all-done _ _ _ _ _ _ _ (going-over _ _ _ _ _ _ _ _ _ _ (omega (arith, c .loop-test .left)) (i .5)),
-      (i .4 .1, i .4 .2),
-    )
+    let i = c .before .loop .inv in
+    let d = all-done _ _ _ _ _ _ _ (going-over _ _ _ _ _ _ _ _ _ _ (omega (arith, c .loop-test .left)) (i .5))
+    (i .4 .2) in
+    (d .0, (d .1, (i .4 .1, i .4 .2)))
 
 pub advance-spec : {M : Type 1} → statement M
 advance-spec =
