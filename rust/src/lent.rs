@@ -125,7 +125,8 @@ impl<'a> Lent<'a> {
     pub fn close(&mut self) {
         *self.state.get_mut() = SHUT;
         let (slots, kept) = self.alone();
-        close(slots, kept);
+        let refused = close(slots, kept);
+        debug_assert_eq!(refused, 0);
     }
 
     /// Closes a leaked drain, or waits until another thread has closed it.
@@ -140,14 +141,44 @@ impl<'a> Lent<'a> {
         }
         // SAFETY: only one call makes DRAINING into CLOSING, and no other goes on before SHUT.
         let (slots, kept) = unsafe { (&mut *self.slots.as_ptr(), &mut *self.kept.get()) };
-        close(slots, kept);
+        let refused = close(slots, kept);
         self.state.store(SHUT, Ordering::Release);
+        debug_assert_eq!(refused, 0);
     }
 }
 
-/// Closes the drain: what was not handed over leaves, and the shorter side moves.
+/// Closes the drain: what was not handed over leaves, and the shorter side moves. Gives the refusal number, which is 0.
 #[inline]
-fn close(slots: &mut [u32], kept: &mut Kept) {
+fn close(slots: &mut [u32], kept: &mut Kept) -> u16 {
     let reply = raw::drain_close(slots, &kept.drain, &mut kept.record);
-    kept.take(reply);
+    kept.moved = reply.moved;
+    reply.refused
+}
+
+#[cfg(test)]
+mod tests {
+    extern crate std;
+
+    use super::*;
+    use core::sync::atomic::AtomicBool;
+    use std::thread;
+    use std::time::Duration;
+
+    /// A look gives nothing before the thread that closes the drain is done.
+    #[test]
+    fn a_look_waits_for_the_closing() {
+        let mut slots = [1, 2];
+        let lent = Lent::new(&mut slots, Record { head: 0, len: 2 }, 0);
+        let closed = AtomicBool::new(false);
+        lent.state.store(CLOSING, Ordering::Relaxed);
+        thread::scope(|scope| {
+            scope.spawn(|| {
+                lent.look();
+                assert!(closed.load(Ordering::Relaxed));
+            });
+            thread::sleep(Duration::from_millis(50));
+            closed.store(true, Ordering::Relaxed);
+            lent.state.store(SHUT, Ordering::Release);
+        });
+    }
 }

@@ -155,6 +155,16 @@ fn a_drain_closes_where_it_is_dropped() {
     assert_eq!((drain.next(), drain.next_back(), drain.len()), (Some(20), Some(40), 1));
     drop(drain);
     assert_eq!(queue, [10]);
+    assert_eq!(queue.moved(), 0);
+}
+
+#[test]
+fn moved_of_a_drain() {
+    let mut slots = LAID;
+    let mut queue = wrapped(&mut slots);
+    queue.drain(1..2).unwrap();
+    assert_eq!(queue, [10, 30, 40]);
+    assert_eq!(queue.moved(), 1);
 }
 
 #[test]

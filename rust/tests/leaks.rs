@@ -5,9 +5,9 @@ use common::{wrapped, LAID};
 use scorebucket::{Queue, Record, Test};
 use std::collections::VecDeque;
 use std::hash::{BuildHasher, BuildHasherDefault, DefaultHasher};
-use std::mem;
 use std::panic::{catch_unwind, AssertUnwindSafe};
-use std::thread;
+use std::sync::atomic::{AtomicUsize, Ordering};
+use std::{mem, thread};
 
 /// A call on a queue, and what it gave as text.
 type Call = fn(&mut Queue<'_>) -> String;
@@ -158,20 +158,25 @@ fn a_queue_may_end_with_it() {
     assert_eq!(slots, LAID);
 }
 
-/// Looks from several threads at once: one of them closes the drain, and all see it closed.
+/// Two threads look at the same time: one of them closes the drain, and both see it closed.
 #[test]
-fn many_threads_look_at_once() {
-    for _ in 0..200 {
-        let mut slots: Vec<u32> = (0..5_000).collect();
-        let mut queue = Queue::with_record(&mut slots, Record { head: 2_000, len: 5_000 }).unwrap();
-        let whole: Vec<u32> = queue.iter().collect();
-        left(&mut queue, 2_400, 2_500, 3, 4, true);
-        let queue = &queue;
-        let expected = [&whole[..2_400], &whole[2_500..]].concat();
-        thread::scope(|scope| {
-            for _ in 0..4 {
-                scope.spawn(|| assert!(*queue == expected[..]));
+fn two_threads_look_at_once() {
+    for _ in 0..50 {
+        let mut slots: Vec<u32> = (0..16_000).collect();
+        let mut queue = Queue::with_record(&mut slots, Record { head: 0, len: 16_000 }).unwrap();
+        left(&mut queue, 7_999, 8_001, 1, 0, true);
+        let (queue, ready) = (&queue, &AtomicUsize::new(0));
+        let look = || {
+            ready.fetch_add(1, Ordering::SeqCst);
+            while ready.load(Ordering::SeqCst) < 2 {
+                thread::yield_now();
             }
+            (queue.get(7_998), queue.get(7_999), queue.get(15_997), queue.len())
+        };
+        thread::scope(|scope| {
+            let other = scope.spawn(look);
+            assert_eq!(look(), (Some(7_998), Some(8_001), Some(15_999), 15_998));
+            assert_eq!(other.join().unwrap(), (Some(7_998), Some(8_001), Some(15_999), 15_998));
         });
     }
 }

@@ -49,6 +49,7 @@ fn equal_to_a_list() {
     let lent: &[u32] = &[10, 20, 30, 40];
     assert!(queue == lent);
     assert!(queue != [10, 20, 30]);
+    assert!(queue != [10, 20, 30, 40, 50]);
     assert!(queue != [10, 20, 30, 41]);
     assert!(queue != vec![10; 16_001][..]);
 }
