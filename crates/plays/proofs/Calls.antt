@@ -1,109 +1,21 @@
--- What a call does is so many steps, one after the other; a step that writes nothing changes nothing,
--- and those behind it neither. Assumes nothing.
+-- A call does so many steps, one after the other: those done, and those that are left. Assumes nothing.
 use mathlib.Core.Bool.{Bool, false}
-use mathlib.Core.List.{List, [], _∷_, _++_}
-use mathlib.Core.Option.{Option, none, some}
-use mathlib.Core.Path.{_≡_, refl, sym, _∙_, ap, subst}
-use Prim.Native.Nat.{ℕ, zero, suc, _+_, _-_, _≤_}
+use mathlib.Core.List.{List, _++_}
+use mathlib.Core.Path.{_≡_, refl, sym, _∙_, ap}
+use Prim.Native.Nat.{ℕ, suc, _+_, _-_, _≤_}
 use native.Mathlib.Nat.{zero-add}
 use native.Mathlib.Omega.{arith}
-use lib.Dec.{ltb}
-use lib.ListN.{length, take, drop, getElem?, length-append}
+use lib.ListN.{length, take, drop}
 use lib.Seq.{sets-eq, take-append-seam, drop-append-seam}
 use Rattle.lines.specs.Puts.{Puts}
 use Rattle.plays.proofs.Done.{used-more, play-now, does-then, does-nothing, does-as}
 use Rattle.plays.proofs.Parts.{stay-then, then-stay, then-assoc}
-use Rattle.plays.specs.Pieces.{beginLast, doGot, wordOf, next, step, steps, longestLine, advanced}
+use Rattle.plays.proofs.Quiet.{step-quiet, after-quiet}
+use Rattle.plays.specs.Pieces.{step, steps, advanced}
 use Rattle.plays.specs.Playing.{Does, partOf, playOf}
-use Rattle.plays.specs.Whole.{Stage, inRecords, inElements, over, Play, Part, _then_, stay, breakOff, ending, playRecord, elements, endWord}
-use Rattle.rules.proofs.Choices.{by-test}
-use Rattle.rules.specs.Choices.{whether}
-use Rattle.rules.specs.Journals.{Entry, doEntry, Got, taken, broken, cut, ended, recordAt}
-use Rattle.rules.specs.Outcome.{Answer}
-use Rattle.rules.specs.Records.{Rec}
-use Rattle.rules.specs.Replays.{lineOf, answerLine, brokenLine, spaced, newline}
 use Rattle.plays.specs.declared.playing.Playing.{Playing}
 use Rattle.plays.specs.declared.playing.Advanced.{Advanced}
-
--- ---- a step that writes nothing
-
-abbrev Quiet : Play → Part → Type 0
-Quiet y a = length (a .written) ≡ 0 → a ≡ stay y
-
-line-some : (w : List ℕ) (ws : List (List ℕ)) → 1 ≤ length (lineOf w ws)
-unfolding lineOf
-line-some w ws = omega (
-  arith,
-  length-append w (spaced ws ++ newline ∷ []),
-  length-append (spaced ws) (newline ∷ []),
-)
-
-answer-some : (r : Rec) (e : Entry) (x : Answer) → 1 ≤ length (answerLine r e x)
-unfolding answerLine
-answer-some r e x = line-some _ _
-
-got-quiet : (last : Bool) (p : ℕ) (y : Play) (g : Got) → Quiet y (doGot last p y g)
-unfolding doGot playRecord breakOff beginLast ending _then_
-got-quiet last p y (taken e q) z = absurd (omega (arith, answer-some (y .queue) e (doEntry (y .slots) (y .queue) e .answer)))
-got-quiet last p y broken z = absurd (omega (arith, length-append (brokenLine (y .queue)) endWord))
-got-quiet last p y cut z =
-    by-test last (Quiet y) (λ t z. absurd (omega (arith, length-append (brokenLine (y .queue)) endWord))) (λ t z. refl) z
-got-quiet last p y ended z = by-test last (Quiet y) (λ t z. absurd (omega arith)) (λ t z. refl) z
-
-word-quiet : (y : Play) (i : ℕ) (o : Option ℕ) → Quiet y (wordOf y i o)
-unfolding wordOf ending
-word-quiet y i none z = absurd (omega arith)
-word-quiet y i (some v) z = absurd (omega arith)
-
-next-quiet : (last : Bool) (s : List ℕ) (p : ℕ) (y : Play) (g : Stage) → Quiet y (next last s p y g)
-unfolding next
-next-quiet last s p y inRecords z = got-quiet last p y (recordAt s p) z
-next-quiet last s p y (inElements i) z = word-quiet y i (getElem? (elements (y .slots) (y .queue)) i) z
-next-quiet last s p y over z = refl
-
-step-quiet : (m : ℕ) (last : Bool) (s : List ℕ) (p : ℕ) (y : Play) → Quiet y (step m last s p y)
-unfolding step
-step-quiet m last s p y z =
-    by-test (ltb m longestLine) (Quiet y) (λ t z. refl) (λ t z. next-quiet last s p y (y .stage) z) z
-
--- ---- many steps
-
-module _ (last : Bool) (s : List ℕ) where
-  steps-one : (k m p : ℕ) (y : Play)
-      → let t = step m last s p y in
-      steps (suc k) m last s p y ≡ t then steps k (m - length (t .written)) last s (p + t .used) (t .play)
-  unfolding steps
-  steps-one k m p y = refl
-
-  -- one that writes nothing is the last
-  steps-quiet : (k m p : ℕ) (y : Play) → step m last s p y ≡ stay y → steps k m last s p y ≡ stay y
-  unfolding steps stay
-  steps-quiet zero m p y e = refl
-  steps-quiet (suc k) m p y e =
-      ap (λ (t : Part). t then steps k (m - length (t .written)) last s (p + t .used) (t .play)) e ∙ stay-then y _
-      ∙ (λ i. steps k (same-room i) last s (same-place i) y) ∙ steps-quiet k m p y e
-    where
-      same-room : m - 0 ≡ m
-      same-room = omega arith
-
-      same-place : p + 0 ≡ p
-      same-place = omega arith
-
-  -- so that nothing comes behind it
-  after-quiet : (j m p : ℕ) (y : Play) (t : Part) → t ≡ stay y → step m last s p y ≡ stay y
-      → steps j (m - length (t .written)) last s (p + t .used) (t .play) ≡ stay (t .play)
-  unfolding stay
-  after-quiet j m p y t e quiet =
-      subst (λ (x : Part). steps j (m - length (x .written)) last s (p + x .used) (x .play) ≡ stay (x .play)) (sym e)
-      ((λ i. steps j (same-room i) last s (same-place i) y) ∙ steps-quiet j m p y quiet)
-    where
-      same-room : m - 0 ≡ m
-      same-room = omega arith
-
-      same-place : p + 0 ≡ p
-      same-place = omega arith
-
--- ---- how far a call has come
+use Rattle.rules.specs.WholeReplay.{Play, Part, _then_, stay}
 
 -- from a0 in the slots b0 and the buffer t0 on, a part is done, and the k steps that are left make w of it
 pub record Going (last : Bool) (s : List ℕ) (b0 b t0 t : List ℕ) (a0 a : Advanced) (k : ℕ) (w : Part) : Type 0 where
@@ -151,15 +63,18 @@ module _ (last : Bool) (s : List ℕ) where
       part = g .part then now;
       does = does-then b0 b b1 t0 t t1 a0 a a1 _ _ (g .does) d;
       rest = then-assoc (g .part) now _
-          ∙ (λ i. g .part then (now then steps j (room i) last s (used-more _ _ _ _ _ _ _ d i) (play-now _ _ _ _ _ _ _ d i)))
+          ∙ (λ i. g .part then (now then steps j (room i) last s (place i) (play-now _ _ _ _ _ _ _ d i)))
           ∙ this-then;
     }
       where
         room : length t0 - a1 .written ≡ length t - a .written - length (now .written)
         room = omega (arith, same, d .puts .next)
 
+        place : a1 .used ≡ a .used + now .used
+        place = used-more _ _ _ _ _ _ _ d
+
     -- it wrote nothing: the call is over
-    pub going-quiet : a1 .written ≡ a .written → Does b0 b1 t0 t1 a0 a1 w
+    pub going-quiet : a1 .written ≤ a .written → Does b0 b1 t0 t1 a0 a1 w
     unfolding now others
     going-quiet quiet =
         let still : now ≡ stay (playOf b (a .playing)) =

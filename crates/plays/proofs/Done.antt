@@ -11,7 +11,7 @@ use Rattle.lines.proofs.Puts.{puts-none, puts-append, puts-as}
 use Rattle.lines.specs.Puts.{Puts}
 use Rattle.plays.proofs.Parts.{same-part, or-false, or-true, then-assoc}
 use Rattle.plays.specs.Playing.{Does, Within, partOf, playOf, stageOf}
-use Rattle.plays.specs.Whole.{Stage, Play, Part, _then_, stay, breakOff, ending, playRecord}
+use Rattle.rules.specs.WholeReplay.{Stage, Play, Part, _then_, stay, breakOff, ending, playRecord}
 use Rattle.plays.specs.Pieces.{beginLast, doGot, next, step}
 use Rattle.queue.specs.Answers.{recOf}
 use Rattle.rules.specs.Choices.{whether}
@@ -38,7 +38,7 @@ module _ (b b1 t t1 : List ℕ) (a a1 : Advanced) (p : Part) (d : Does b b1 t t1
   play-now = ap (λ (x : Part). x .play) (d .done)
 
   -- nothing of the bytes was used
-  pub within-same : (n m : ℕ) → p .used ≡ 0 → p .records ≡ 0 → Within n m a → a1 .written ≤ m → Within n m a1
+  within-same : (n m : ℕ) → p .used ≡ 0 → p .records ≡ 0 → Within n m a → a1 .written ≤ m → Within n m a1
   within-same n m u k w le = (
     omega (arith, used-more, records-more, w .0),
     omega (arith, used-more, w .1),
@@ -77,6 +77,12 @@ pub does-as : (b b1 t t1 : List ℕ) (a a1 : Advanced) (p q : Part) → p ≡ q 
     → Does b b1 t t1 a a1 q
 does-as b b1 t t1 a a1 p q e d = subst (Does b b1 t t1 a a1) e d
 
+-- a return that used nothing of the n bytes, in a buffer of m
+pub does-unused : (b b1 t t1 : List ℕ) (a a1 : Advanced) (p q : Part) (n m : ℕ) → p ≡ q → Does b b1 t t1 a a1 p
+    → (p .used ≡ 0) × (p .records ≡ 0) → Within n m a → a1 .written ≤ m → Does b b1 t t1 a a1 q × Within n m a1
+does-unused b b1 t t1 a a1 p q n m e d none w le =
+    (does-as b b1 t t1 a a1 p q e d, within-same b b1 t t1 a a1 p d n m (none .0) (none .1) w le)
+
 module _ (b t : List ℕ) (before : Advanced) where
   pub does-nothing : Does b b t t before before (stay (playOf b (before .playing)))
   unfolding _then_ stay
@@ -86,50 +92,51 @@ module _ (b t : List ℕ) (before : Advanced) where
   }
 
   -- the line of a record that is broken
-  pub does-break : (t1 : List ℕ) (w : ℕ)
+  pub does-break : (t1 : List ℕ) (u n w : ℕ) → u ≡ before .used → n ≡ before .records
       → Puts t t1 (before .written) w (brokenLine (recOf (before .playing .queue)))
       → Does b b t t1 before (record {
         playing = before .playing;
-        used = before .used;
-        records = before .records;
+        used = u;
+        records = n;
         broken = true;
         written = w;
       }) (breakOff (playOf b (before .playing)))
   unfolding _then_ breakOff
-  does-break t1 w h = record {
-    done = same-part _ _ refl (omega arith) (omega arith) (sym (or-true (before .broken))) refl;
+  does-break t1 u n w at-u at-n h = record {
+    done = same-part _ _ refl (omega (arith, at-u)) (omega (arith, at-n)) (sym (or-true (before .broken))) refl;
     puts = h;
   }
 
   -- a word of the last line
-  pub does-ending : (t1 : List ℕ) (g : CodeStage) (l : List ℕ) (w : ℕ) → Puts t t1 (before .written) w l
+  pub does-ending : (t1 : List ℕ) (g : CodeStage) (l : List ℕ) (u n w : ℕ) → u ≡ before .used → n ≡ before .records
+      → Puts t t1 (before .written) w l
       → Does b b t t1 before (record {
         playing = record { queue = before .playing .queue; stage = g };
-        used = before .used;
-        records = before .records;
+        used = u;
+        records = n;
         broken = before .broken;
         written = w;
       }) (ending (playOf b (before .playing)) (stageOf g) l)
   unfolding _then_ ending
-  does-ending t1 g l w h = record {
-    done = same-part _ _ refl (omega arith) (omega arith) (sym (or-false (before .broken))) refl;
+  does-ending t1 g l u n w at-u at-n h = record {
+    done = same-part _ _ refl (omega (arith, at-u)) (omega (arith, at-n)) (sym (or-false (before .broken))) refl;
     puts = h;
   }
 
   -- a record's operation, and its line
-  pub does-record : (b1 t1 : List ℕ) (q : Deque) (e : Entry) (x : Answer) (n w : ℕ)
-      → (x, b1) ≡ told (doEntry b (recOf (before .playing .queue)) e)
+  pub does-record : (b1 t1 : List ℕ) (q : Deque) (e : Entry) (x : Answer) (u n w : ℕ) → before .used ≤ u
+      → n ≡ before .records + 1 → (x, b1) ≡ told (doEntry b (recOf (before .playing .queue)) e)
       → recOf q ≡ recOr (recOf (before .playing .queue)) (x .state)
-      → Puts t t1 (before .written) w (answerLine (recOf (before .playing .queue)) e x) → before .used ≤ n
+      → Puts t t1 (before .written) w (answerLine (recOf (before .playing .queue)) e x)
       → Does b b1 t t1 before (record {
         playing = record { queue = q; stage = Records };
-        used = n;
-        records = before .records + 1;
+        used = u;
+        records = n;
         broken = before .broken;
         written = w;
-      }) (playRecord (playOf b (before .playing)) e (n - before .used))
+      }) (playRecord (playOf b (before .playing)) e (u - before .used))
   unfolding _then_ playRecord
-  does-record b1 t1 q e x n w at-x at-q h le =
+  does-record b1 t1 q e x u n w le at-n at-x at-q h =
       let r = recOf (before .playing .queue) in
       let is : x ≡ doEntry b r e .answer = ap (λ (o : Answer × List ℕ). o .0) at-x in
       record {
@@ -138,7 +145,7 @@ module _ (b t : List ℕ) (before : Advanced) where
               slots = at-x i .1;
               queue = (at-q ∙ ap (λ (a : Answer). recOr r (a .state)) is) i;
               stage = stageOf Records;
-            }) (omega arith) refl (sym (or-false (before .broken))) refl;
+            }) (omega arith) (omega (arith, at-n)) (sym (or-false (before .broken))) refl;
         puts = puts-as t (before .written) t1 w _ _ (ap (answerLine r e) is) h;
       }
 
@@ -148,7 +155,8 @@ pub begins-unused : (y : Play) → (beginLast y .used ≡ 0) × (beginLast y .re
 unfolding beginLast ending
 begins-unused y = (refl, refl)
 
-pub breaks-unused : (y : Play) → ((breakOff y then beginLast y) .used ≡ 0) × ((breakOff y then beginLast y) .records ≡ 0)
+pub breaks-unused : (y : Play) → ((breakOff y then beginLast y) .used ≡ 0) × ((breakOff y then beginLast y) .records ≡
+    0)
 unfolding beginLast ending breakOff _then_
 breaks-unused y = (refl, refl)
 

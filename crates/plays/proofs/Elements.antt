@@ -12,7 +12,7 @@ use Rattle.elements.specs.Answers.{ofFound}
 use Rattle.elements.specs.declared.answers.Found.{Found}
 use Rattle.elements.specs.declared.answers.Found.the-variants.{Number, Nothing, Refused}
 use Rattle.plays.specs.Pieces.{wordOf}
-use Rattle.plays.specs.Whole.{Play, ending, inElements, over, elements}
+use Rattle.rules.specs.WholeReplay.{Play, ending, inElements, over, elements}
 use Rattle.rules.proofs.Slots.{length-listOf}
 use Rattle.rules.specs.Choices.{unless}
 use Rattle.rules.specs.Looks.{Look, sees, refuses, looked, lookAt, atPosition}
@@ -66,10 +66,12 @@ module _ (y : Play) (i : ℕ) (f : Found) (h : ofFound f ≡ lookAt (y .slots) (
   at-found : wordOf y i (found (ofFound f)) ≡ wordOf y i (getElem? (elements (y .slots) (y .queue)) i)
   at-found = ap (wordOf y i) (sym (in-elements (y .slots) (y .queue) i f h))
 
-  pub at-element : (v : ℕ) → f ≡ Number v → ending y (inElements (i + 1)) (space ∷ decimal v)
+  pub at-element : (v k : ℕ) → k ≡ i + 1 → f ≡ Number v → ending y (inElements k) (space ∷ decimal v)
       ≡ wordOf y i (getElem? (elements (y .slots) (y .queue)) i)
   unfolding wordOf
-  at-element v is = ap (λ (g : Found). wordOf y i (found (ofFound g))) (sym is) ∙ at-found
+  at-element v k at-k is =
+      ap (λ (j : ℕ). ending y (inElements j) (space ∷ decimal v)) at-k
+      ∙ ap (λ (g : Found). wordOf y i (found (ofFound g))) (sym is) ∙ at-found
 
   pub at-newline : OneOf (1 ∷ 2 ∷ []) (tagOf the-type f) → ending y over (newline ∷ [])
       ≡ wordOf y i (getElem? (elements (y .slots) (y .queue)) i)

@@ -4,7 +4,7 @@ use mathlib.Core.List.{append-assoc, append-nil}
 use mathlib.Core.Path.{_≡_, refl}
 use Prim.Native.Nat.{_+_}
 use native.Mathlib.Omega.{arith}
-use Rattle.plays.specs.Whole.{Play, Part, _then_, stay}
+use Rattle.rules.specs.WholeReplay.{Play, Part, _then_, stay}
 
 -- a part is what its five fields say
 pub same-part : (a b : Part) → a .play ≡ b .play → a .used ≡ b .used → a .records ≡ b .records → a .broke ≡ b .broke

@@ -204,7 +204,8 @@ record-later s u p =
     tested s (u + p)
     ∙ (λ i. tests (left i) (long i) (byte 2 i) (byte 3 i) (word 4 i) (word 8 i) (behind i))
     ∙ tests-later u (length (drop u s) - p) (lengthAt (drop u s) p) (getD (drop u s) (p + 2) 0)
-    (getD (drop u s) (p + 3) 0) (wordAt (drop u s) (p + 4)) (wordAt (drop u s) (p + 8)) (p + (2 + lengthAt (drop u s) p)) ∙ ap (later u) (sym (tested (drop u s) p))
+    (getD (drop u s) (p + 3) 0) (wordAt (drop u s) (p + 4)) (wordAt (drop u s) (p + 8)) (p + (2 + lengthAt (drop u s)
+    p)) ∙ ap (later u) (sym (tested (drop u s) p))
   where
     left : length s - (u + p) ≡ length (drop u s) - p
     left = omega (arith, length-drop u s)

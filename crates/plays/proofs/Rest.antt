@@ -7,92 +7,23 @@ use mathlib.Core.Path.{_≡_, refl, sym, _∙_, ap, subst}
 use Prim.Native.Nat.{ℕ, zero, suc, _+_, _-_, _≤_}
 use native.Mathlib.Omega.{arith}
 use lib.Dec.{T, ltb}
-use lib.ListN.{length, drop, getElem?, length-append, length-drop}
+use lib.ListN.{length, drop, getElem?, length-drop}
 use lib.Seq.{drop-append-le}
-use Rattle.journals.proofs.RecordBytes.{at-end}
 use Rattle.plays.proofs.Elements.{word-uses}
-use Rattle.plays.proofs.Parts.{same-part, then-assoc, stay-then, then-stay}
-use Rattle.plays.proofs.Records.{Ends, record-ends, Settles, settles, later, record-later}
+use Rattle.plays.proofs.Parts.{then-assoc, stay-then}
+use Rattle.plays.proofs.Records.{Ends, record-ends, Settles, settles}
+use Rattle.plays.proofs.Whole.{from, enough, shifted, replays-here}
 use Rattle.plays.specs.Pieces.{beginLast, doGot, wordOf, next, step, steps, longestLine, advanced}
-use Rattle.plays.specs.Whole.{Stage, inRecords, inElements, over, Play, Part, _then_, stay, breakOff, ending, playRecord, lastLine, replayed, elements, endLine, endWord}
+use Rattle.rules.specs.WholeReplay.{Stage, inRecords, inElements, over, Play, Part, _then_, stay, breakOff, ending, playRecord, lastLine, replayed, elements, endLine, endWord}
 use Rattle.rules.proofs.Choices.{by-test}
-use Rattle.rules.specs.Choices.{whether}
 use Rattle.rules.specs.Journals.{Entry, Got, taken, broken, cut, ended, recordAt}
 use Rattle.rules.specs.Replays.{decimal, lineOf, newline, space, spaced}
-
--- ---- a whole replay, from a position on
-
--- what is done for what stands at position p, where `more` is done behind a record
-abbrev from : ℕ → Play → (ℕ → Play → Part) → Got → Part
-from p y more (taken e q) = let t = playRecord y e (q - p) in t then more q (t .play)
-from p y more broken = breakOff y then lastLine y
-from p y more cut = breakOff y then lastLine y
-from p y more ended = lastLine y
-
-replays-one : (k : ℕ) (s : List ℕ) (p : ℕ) (y : Play) → replayed (suc k) s p y ≡ from p y (replayed k s) (recordAt s p)
-unfolding replayed
-replays-one k s p y = at (recordAt s p)
-  where
-    at : (g : Got) → elim g [
-      | taken e q ↦ (let t = playRecord y e (q - p) in t then replayed k s q (t .play))
-      | broken ↦ breakOff y then lastLine y
-      | cut ↦ breakOff y then lastLine y
-      | ended ↦ lastLine y
-    ] ≡ from p y (replayed k s) g
-    at (taken e q) = refl
-    at broken = refl
-    at cut = refl
-    at ended = refl
-
-none-left : (k : ℕ) (s : List ℕ) (p : ℕ) (y : Play) → length s ≤ p → replayed zero s p y ≡ replayed (suc k) s p y
-unfolding replayed
-none-left k s p y le = sym (replays-one k s p y ∙ ap (from p y (replayed k s)) (sym (at-end s p le)))
-
--- as many records as there are bytes are enough, and more change nothing
-enough : (j k : ℕ) (s : List ℕ) (p : ℕ) (y : Play) → length s - p ≤ j → length s - p ≤ k
-    → replayed j s p y ≡ replayed k s p y
-enough zero zero s p y a b = refl
-enough zero (suc k) s p y a b =
-    none-left k s p y (omega arith)
-enough (suc j) zero s p y a b = sym (none-left j s p y (omega arith))
-enough (suc j) (suc k) s p y a b =
-    replays-one j s p y ∙ at (λ q x c d. enough j k s q x c d) (recordAt s p) (record-ends s p)
-    ∙ sym (replays-one k s p y)
-  where
-    at : ((q : ℕ) (x : Play) → length s - q ≤ j → length s - q ≤ k → replayed j s q x ≡ replayed k s q x) → (g : Got)
-        → Ends p (length s) g → from p y (replayed j s) g ≡ from p y (replayed k s) g
-    at more (taken e q) h = ap (λ (x : Part). playRecord y e (q - p) then x)
-        (more q (playRecord y e (q - p) .play) (omega (arith, h .0)) (omega (arith, h .0)))
-    at more broken h = refl
-    at more cut h = refl
-    at more ended h = refl
-
--- the rest of the bytes, as a journal of its own
-shifted : (k : ℕ) (s : List ℕ) (u p : ℕ) (y : Play) → replayed k (drop u s) p y ≡ replayed k s (u + p) y
-unfolding replayed
-shifted zero s u p y = refl
-shifted (suc k) s u p y =
-    replays-one k (drop u s) p y ∙ at (λ q x. shifted k s u q x) (recordAt (drop u s) p)
-    ∙ ap (from (u + p) y (replayed k s)) (sym (record-later s u p)) ∙ sym (replays-one k s (u + p) y)
-  where
-    same : (q : ℕ) → q - p ≡ u + q - (u + p)
-    same q = omega arith
-
-    at : ((q : ℕ) (x : Play) → replayed k (drop u s) q x ≡ replayed k s (u + q) x) → (g : Got)
-        → from p y (replayed k (drop u s)) g ≡ from (u + p) y (replayed k s) (later u g)
-    at more (taken e q) =
-        (λ i. playRecord y e (same q i) then replayed k (drop u s) q (playRecord y e (same q i) .play))
-        ∙ ap (λ (x : Part). playRecord y e (u + q - (u + p)) then x) (more q (playRecord y e (u + q - (u + p)) .play))
-    at more broken = refl
-    at more cut = refl
-    at more ended = refl
-
--- ---- what is still to be done
 
 -- the elements l of the last line, and its end
 abbrev lastWords : List ℕ → List ℕ
 lastWords l = spaced (map decimal l) ++ newline ∷ []
 
+-- at a stage
 abbrev pub restAt : List ℕ → ℕ → Play → Stage → Part
 restAt s p y inRecords = replayed (length s) s p y
 restAt s p y (inElements i) = ending y over (lastWords (drop i (elements (y .slots) (y .queue))))
@@ -134,7 +65,8 @@ leaves-all s p y = sym (stay-then y _ ∙ ap (λ (k : ℕ). rest s k y) same)
     same = omega arith
 
 -- the last line, begun and ended
-begins-last : (s : List ℕ) (p : ℕ) (y : Play) → lastLine y ≡ beginLast y then rest s (p + beginLast y .used) (beginLast y .play)
+begins-last : (s : List ℕ) (p : ℕ) (y : Play)
+    → lastLine y ≡ beginLast y then rest s (p + beginLast y .used) (beginLast y .play)
 unfolding lastLine beginLast ending endLine lineOf _then_
 begins-last s p y = refl
 
@@ -147,11 +79,6 @@ module _ (s : List ℕ) (p : ℕ) (y : Play) (i : ℕ) where
       ∙ ap (λ (w : List ℕ). ending y over (space ∷ w))
       (append-assoc (decimal v) (spaced (map decimal (drop (i + 1) (elements (y .slots) (y .queue))))) (newline ∷ []))
 
-replays-here : (s : List ℕ) (p : ℕ) (y : Play)
-    → replayed (length s) s p y ≡ from p y (replayed (length s) s) (recordAt s p)
-replays-here s p y =
-    enough (length s) (suc (length s)) s p y (omega arith) (omega arith) ∙ replays-one (length s) s p y
-
 -- in the records: g stands at the position in a piece, and in the whole where it is settled or no more bytes come
 module _ (last : Bool) (s : List ℕ) (p : ℕ) (y : Play) (here : y .stage ≡ inRecords) where
   as-from : (g : Got) → g ≡ recordAt s p → rest s p y ≡ from p y (replayed (length s) s) g
@@ -159,7 +86,8 @@ module _ (last : Bool) (s : List ℕ) (p : ℕ) (y : Play) (here : y .stage ≡ 
 
   break-leaves : rest s p y ≡ breakOff y then lastLine y → Leaves s p y (breakOff y then beginLast y)
   unfolding beginLast ending _then_
-  break-leaves e = e ∙ ap (λ (x : Part). breakOff y then x) (begins-last s p y) ∙ sym (then-assoc (breakOff y) (beginLast y) _)
+  break-leaves e =
+      e ∙ ap (λ (x : Part). breakOff y then x) (begins-last s p y) ∙ sym (then-assoc (breakOff y) (beginLast y) _)
 
   end-leaves : rest s p y ≡ lastLine y → Leaves s p y (beginLast y)
   end-leaves e = e ∙ begins-last s p y

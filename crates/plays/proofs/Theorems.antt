@@ -1,16 +1,17 @@
 -- THE LINES OF A JOURNAL DO NOT DEPEND ON ITS PIECES: calls that come to the last line's end have together done
 -- what the rules' replay of the whole journal does, whatever its pieces and the buffers were. Assumes nothing.
 use mathlib.Core.Bool.{true, false}
-use mathlib.Core.List.{List, [], _∷_, _++_, append-assoc, append-nil}
+use mathlib.Core.List.{List, [], _∷_, _++_, append-assoc}
+use mathlib.Core.Logic.{_≢_}
 use mathlib.Core.Path.{_≡_, refl, sym, _∙_, ap, subst}
-use Prim.Native.Nat.{ℕ}
+use Prim.Native.Nat.{ℕ, _≤_}
 use lib.ListN.{length, take, drop}
-use Rattle.plays.proofs.Parts.{then-stay}
+use Rattle.plays.proofs.Quiet.{call-writes}
 use Rattle.plays.proofs.Rest.{rest, restAt, call-leaves}
-use Rattle.plays.specs.Pieces.{advanced, joined, Calls, stop, piece, final}
+use Rattle.plays.specs.Pieces.{advanced, longestLine, joined, Calls, stop, piece, final}
 use Rattle.plays.specs.Playing.{playOf, partOf}
 use Rattle.plays.specs.Ran.{Ran, ran-stop, ran-piece, ran-final}
-use Rattle.plays.specs.Whole.{over, Play, Part, _then_, stay, starting, replayOf, replay, zeros}
+use Rattle.rules.specs.WholeReplay.{over, Play, Part, _then_, stay, starting, replayOf, replay, zeros}
 use Rattle.plays.specs.declared.playing.Playing.{Playing}
 
 -- what calls do that end the last line is all that was to be done
@@ -20,7 +21,8 @@ unfolding stay _then_ joined
 all-of-it (stop {y} {s} {ss}) e = ap (restAt (s ++ joined ss) 0 y) e
 all-of-it (piece {y} {s} {x} {ss} {a} m c is p) e =
     ap (λ (l : List ℕ). rest l 0 y) (sym (append-assoc s x (joined ss)))
-    ∙ subst (λ (d : Part). rest (s ++ x ++ joined ss) 0 y ≡ d then rest (drop (d .used) (s ++ x) ++ joined ss) 0 (d .play))
+    ∙ subst
+    (λ (d : Part). rest (s ++ x ++ joined ss) 0 y ≡ d then rest (drop (d .used) (s ++ x) ++ joined ss) 0 (d .play))
     (sym is) (call-leaves false (s ++ x) (joined ss) (λ z. absurd z) m y) ∙ ap (λ (z : Part). c then z) (all-of-it p e)
 all-of-it (final {y} {s} {a} m c is p) e =
     subst (λ (d : Part). rest (s ++ []) 0 y ≡ d then rest (drop (d .used) s ++ []) 0 (d .play)) (sym is)
@@ -34,6 +36,12 @@ pub any-pieces : (b : List ℕ) (ss : List (List ℕ)) (a : Part) → Calls (sta
 unfolding replayOf starting
 any-pieces b ss a p e = all-of-it p e
 
+-- And they come to that end: told that no more bytes come, and with room for a line, each
+-- call writes at least a byte until the last line is ended.
+pub goes-on : (m : ℕ) (s : List ℕ) (y : Play) → longestLine ≤ m → y .stage ≢ over
+    → 1 ≤ length (advanced m true s y .written)
+goes-on m s y room ne = call-writes m s y room ne
+
 -- ---- the code
 
 -- what calls of the code did is what such calls of the rules do
@@ -44,8 +52,8 @@ are-calls (ran-final t t1 b1 r e p) = final (length t) (partOf b1 r (take (r .wr
 
 -- THE CODE IS IN THE THEOREM: calls of `advance`, from `start` in any slots b on, that come to the
 -- last line's end, wrote together what the rules' replay of the journal writes, and left its slots and record.
-pub code-replays : (b : List ℕ) (y : Playing) (ss : List (List ℕ)) (a : Part) → playOf b y ≡ starting b → Ran b y [] ss a
-    → a .play .stage ≡ over → replayOf b (joined ss) ≡ a
+pub code-replays : (b : List ℕ) (y : Playing) (ss : List (List ℕ)) (a : Part) → playOf b y ≡ starting b
+    → Ran b y [] ss a → a .play .stage ≡ over → replayOf b (joined ss) ≡ a
 code-replays b y ss a at-start r e =
     any-pieces b ss a (subst (λ (x : Play). Calls x [] ss a) at-start (are-calls r)) e
 

@@ -9,7 +9,7 @@ use lib.ListN.{length, drop, getElem?}
 use Rattle.rules.specs.Choices.{whether}
 use Rattle.rules.specs.Journals.{Got, recordAt, taken, broken, cut, ended}
 use Rattle.rules.specs.Replays.{decimal, newline, space}
-use Rattle.plays.specs.Whole.{Stage, inRecords, inElements, over, Play, Part, _then_, stay, breakOff, ending, playRecord, elements, endWord}
+use Rattle.rules.specs.WholeReplay.{Stage, inRecords, inElements, over, Play, Part, _then_, stay, breakOff, ending, playRecord, elements, endWord}
 
 -- the longest line of a record
 abbrev pub longestLine : ℕ
@@ -59,9 +59,9 @@ unfoldable pub joined : List (List ℕ) → List ℕ
 joined [] = []
 joined (s ∷ ss) = s ++ joined ss
 
--- what calls do together, from y on, each from where the last one stands: a call c has a buffer of any size m, and is
--- given the bytes that the last one left, s at first, and the next of the pieces ss behind them, or is told that there
--- is none
+-- what calls do together, from y on, each from where the last one stands: a call c has a buffer of any size m, and
+-- is given the bytes that the last one left, s at first, and the next of the pieces ss behind them, or is told that
+-- there is none
 pub data Calls : Play → List ℕ → List (List ℕ) → Part → Type 0 where
   stop : {y : Play} {s : List ℕ} {ss : List (List ℕ)} → Calls y s ss (stay y)
   piece : {y : Play} {s x : List ℕ} {ss : List (List ℕ)} {a : Part} (m : ℕ) (c : Part)

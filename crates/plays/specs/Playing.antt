@@ -4,8 +4,8 @@ use mathlib.Core.Path.{_≡_}
 use Prim.Native.Nat.{ℕ, _≤_}
 use Rattle.lines.specs.Puts.{Puts}
 use Rattle.queue.specs.Answers.{recOf}
-use Rattle.plays.specs.Whole as whole
-use Rattle.plays.specs.Whole.{Play, Part, _then_}
+use Rattle.rules.specs.WholeReplay as whole
+use Rattle.rules.specs.WholeReplay.{Play, Part, _then_}
 use Rattle.plays.specs.declared.playing.Stage.{Stage}
 use Rattle.plays.specs.declared.playing.Stage.the-variants.{Records, Elements, Over}
 use Rattle.plays.specs.declared.playing.Playing.{Playing}

@@ -4,7 +4,7 @@ ghost use mathlib.Core.List.{List};
 ghost use mathlib.Core.Path.{_≡_};
 ghost use Prim.Native.Nat.{ℕ};
 ghost use Rattle.plays.specs.Playing.{playOf};
-ghost use Rattle.plays.specs.Whole.{starting};
+ghost use Rattle.rules.specs.WholeReplay.{starting};
 
 // Where a replay stands: in the records, in the last line before element i, or behind it.
 pub enum Stage {

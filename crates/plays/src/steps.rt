@@ -10,7 +10,7 @@ ghost use lib.ListN.{getElem?, length};
 ghost use Rattle.journals.specs.Records.{entryFor};
 ghost use Rattle.plays.specs.Pieces.{beginLast, doGot, step, wordOf};
 ghost use Rattle.plays.specs.Playing.{Does, Within, playOf};
-ghost use Rattle.plays.specs.Whole.{_then_, breakOff, elements, playRecord};
+ghost use Rattle.rules.specs.WholeReplay.{_then_, breakOff, elements, playRecord};
 ghost use Rattle.queue.specs.Answers.{recOf};
 ghost use Rattle.rules.specs.Journals.{recordAt};
 

@@ -1,12 +1,11 @@
 -- The lines of the replay program, as bytes. Assumes nothing.
-use mathlib.Core.List.{List, [], _∷_, _++_, map}
+use mathlib.Core.List.{List, [], _∷_, _++_}
 use mathlib.Core.Option.{Option, none, some}
 use Prim.Native.Nat.{ℕ, zero, suc, _+_, _/_, _%_}
 use lib.Dec.{ltb}
-use lib.ListN.{length, replicate}
-use Rattle.rules.specs.Journals.{Entry, doPushBack, doPushFront, doPopFront, doPopBack, doDrain, doTruncate, doTruncateFront, doInsert, doRemove, recordAt, taken, doEntry, broken, cut, ended}
+use Rattle.rules.specs.Journals.{Entry, doPushBack, doPushFront, doPopFront, doPopBack, doDrain, doTruncate, doTruncateFront, doInsert, doRemove}
 use Rattle.rules.specs.Outcome.{State, shut, draining, Answer}
-use Rattle.rules.specs.Records.{Rec, held, newRec}
+use Rattle.rules.specs.Records.{Rec}
 use Rattle.rules.specs.Choices.{whether}
 
 abbrev pub space : ℕ
@@ -64,26 +63,3 @@ answerLine r e a = lineOf (decimal (a .refused))
 -- a broken, unknown or cut record: `5 0`, head and len
 unfoldable pub brokenLine : Rec → List ℕ
 brokenLine r = lineOf (decimal 5) (decimal 0 ∷ decimal (r .head) ∷ decimal (r .len) ∷ [])
-
--- `end` and the elements, each after a space
-unfoldable pub endLine : List ℕ → Rec → List ℕ
-endLine b r = lineOf (101 ∷ 110 ∷ 100 ∷ []) (map decimal (held b r))
-
--- what the program writes for the bytes s from position p on, in at most k records, and then the last line
-unfoldable pub replayed : ℕ → List ℕ → ℕ → List ℕ → Rec → List ℕ
-replayed zero s p b r = endLine b r
-replayed (suc k) s p b r = elim (recordAt s p) [
-  | taken e p′ ↦ (let o = doEntry b r e in answerLine r e (o .answer)
-      ++ replayed k s p′ (o .slots) (recOr r (o .answer .state)))
-  | broken ↦ brokenLine r ++ endLine b r
-  | cut ↦ brokenLine r ++ endLine b r
-  | ended ↦ endLine b r
-]
-
--- the slots of the replay program
-abbrev pub mostPlayed : ℕ
-mostPlayed = 16000
-
--- what the program writes: that many slots of its own, zero at first; each record takes at least a byte
-unfoldable pub replay : List ℕ → List ℕ
-replay s = replayed (length s) s 0 (replicate mostPlayed 0) (newRec 0)

@@ -48,30 +48,44 @@ same-length-2 c = search needs
 
 returns : tie.Need-returns Inv-loop μ-loop
 returns c =
+    let z = c .before .before .before .before .before .before .before .before .before .before .before .before .before
+    .before .before in
     let i = c .before .before .before .before .before .before .before .before .before .before .before .loop .inv in
-    let w = c .before .before .before .before .before .before .before .step .ensures .1 in
-    let fits : c .before .before .before .before .before .before .before .step .result .written ≤ length (now (c .before .before .before .before .before .before .before .before .before .before .before .before .before .before .before .args .out)) = omega (arith, w .2, i .3) in
-    let d = all-done _ _ _ _ _ _ _ (going-quiet _ _ _ _ _ _ _ _ _ _ _ _ _ _ (i .3)
-    (one-more _ _ (c .before .before .before .before .before .before .before .before .before .before .loop-test .taken)) (i .5) (c .before .before .before .before .before .before .before .step .ensures .0) (c .if1 .taken)) fits in
-    (d .0, (d .1, (w .1, fits)))
+    let more = c .before .before .before .before .before .before .before .before .before .before .loop-test .taken in
+    let went = c .before .before .before .before .before .before .before .step .ensures in
+    let fits : c .before .before .before .before .before .before .before .step .result .written ≤ length (now (z .args
+    .out)) = omega (arith, went .1 .2, i .3) in
+    let d = all-done _ _ _ _ _ _ _ (going-quiet _ _ _ _ _ _ _ _ _ _ _ _ _ _ (i .3) (one-more _ _ more) (i .5)
+    (went .0) (omega (arith, c .if1 .taken))) fits in
+    (d .0, (d .1, (went .1 .1, fits)))
 
 add-counter : tie.Need-add-counter Inv-loop μ-loop
-add-counter c = omega (arith, c .before .before .before .before .before .before .before .before .before .before .loop-test .taken, c .before .before .before .before .before .before .before .before .before .before .before .loop .inv .1, c .before .before .before .before .before .before .before .before .before .before .before .before)
+add-counter c =
+    let more = c .before .before .before .before .before .before .before .before .before .before .loop-test .taken in
+    let z = c .before .before .before .before .before .before .before .before .before .before .before .before in
+    omega (
+      arith,
+      more,
+      c .before .before .before .before .before .before .before .before .before .before .before .loop
+          .inv .1,
+      z,
+    )
 
 loop-less : tie.Need-loop-less Inv-loop μ-loop
-loop-less c = omega (arith, c .before .before .before .before .before .before .before .before .before .before .loop-test .taken)
+loop-less c = let more = c .before .before .before .before .before .before .before .before .before .before .loop-test
+    .taken in omega (arith, more)
 
 loop-again : tie.Need-loop-again Inv-loop μ-loop
 loop-again c =
     let i = c .before .before .before .before .before .before .before .before .before .before .before .loop .inv in
-    let w = c .before .before .before .before .before .before .before .step .ensures .1 in (
-      omega (arith, c .before .before .before .before .before .before .before .before .before .before .loop-test .taken),
+    let more = c .before .before .before .before .before .before .before .before .before .before .loop-test .taken in
+    let went = c .before .before .before .before .before .before .before .step .ensures in (
+      omega (arith, more),
       i .1,
       c .before .before .before .before .before .before .before .step .kept .0 ∙ i .2,
       search needs,
-      (w .0, w .1, omega (arith, w .2, i .3)),
-      going-more _ _ _ _ _ _ _ _ _ _ _ _ _ _ (i .3) (one-more _ _ (c .before .before .before .before .before .before .before .before .before .before .loop-test .taken)) (i .5)
-          (c .before .before .before .before .before .before .before .step .ensures .0),
+      (went .1 .0, went .1 .1, omega (arith, went .1 .2, i .3)),
+      going-more _ _ _ _ _ _ _ _ _ _ _ _ _ _ (i .3) (one-more _ _ more) (i .5) (went .0),
     )
 
 same-length-3 : tie.Need-same-length-3 Inv-loop μ-loop

@@ -1,5 +1,5 @@
 -- `plays::playing::start` meets its contract. Assumes nothing.
-use Rattle.plays.specs.Whole.{starting, inRecords}
+use Rattle.rules.specs.WholeReplay.{starting, inRecords}
 use borrow.Author.Needs.{needs}
 use Rattle.plays.proofs.playing.start.Statement.{statement}
 use Rattle.plays.proofs.playing.start.Tie as tie

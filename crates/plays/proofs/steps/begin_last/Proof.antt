@@ -14,10 +14,10 @@ same-length c = search needs
 
 returns : tie.Need-returns
 unfolding beginLast
-returns c = (
-  does-ending _ _ (c .before .before .before .before .before .before .before .before .args .before) _ _ _ _ (c .before .before .put-end .ensures),
-  omega (arith, c .before .before .put-end .ensures .next),
-)
+returns c =
+    let before = c .before .before .before .before .before .before .before .before .args .before in
+    let put = c .before .before .put-end .ensures in
+    (does-ending _ _ before _ _ _ _ _ _ (omega arith) (omega arith) put, omega (arith, put .next))
 
 pub begin-last-spec : {M : Type 1} → statement M
 begin-last-spec = tie.close (tie.spec put-end-requires same-length returns)

@@ -15,11 +15,14 @@ same-length : tie.Need-same-length
 same-length c = search needs
 
 returns : tie.Need-returns
-returns c = (
-  does-then _ _ _ _ _ _ _ _ _ _ _ (does-break _ _ (c .before .before .before .before .before .before .before .before .before .before .before .before .args .before) _ _ (c .before .before .before .before .before .before .broken-line .ensures .0))
-      (c .before .before .begin-last .ensures .0),
-  omega (arith, c .before .before .before .before .before .before .broken-line .ensures .1, c .before .before .begin-last .ensures .1),
-)
+returns c =
+    let before = c .before .before .before .before .before .before .before .before .before .before .before .before .args
+    .before in
+    let put = c .before .before .before .before .before .before .broken-line .ensures in
+    let begun = c .before .before .begin-last .ensures in (
+      does-then _ _ _ _ _ _ _ _ _ _ _ (does-break _ _ before _ _ _ _ (omega arith) (omega arith) (put .0)) (begun .0),
+      omega (arith, put .1, begun .1),
+    )
 
 pub break-off-spec : {M : Type 1} → statement M
 break-off-spec = tie.close (tie.spec broken-line-requires begin-last-requires same-length returns)

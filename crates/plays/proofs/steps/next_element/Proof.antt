@@ -16,8 +16,10 @@ enum-known-number c = search needs
 
 add-t9 : tie.Need-add-t9
 add-t9 c =
-    let low = element-low (playOf (now (c .before .before .before .before .before .before .before .before .args .slots)) (c .before .before .before .before .before .before .before .before .args .before .playing)) (c .before .before .before .before .before .before .before .before .args .i) _
-    (c .before .before .before .get .ensures) _ (c .before .number .given .1) in
+    let a = c .before .before .before .before .before .before .before .before .args in
+    let low = element-low (playOf (now (a .slots)) (a .before .playing)) (a .i) _ (c .before .before .before .get
+    .ensures) _
+    (c .before .number .given .1) in
     omega arith
 
 cast-put-word : tie.Need-cast-put-word
@@ -30,11 +32,16 @@ same-length : tie.Need-same-length
 same-length c = search needs
 
 returns : tie.Need-returns
-returns c = (
-  does-as _ _ _ _ _ _ _ _ (at-element _ _ _ (c .before .before .before .before .before .before .before .get .ensures) _ (c .before .before .before .before .before .number .given .1))
-      (does-ending _ _ (c .before .before .before .before .before .before .before .before .before .before .before .before .args .before) _ _ _ _ (c .before .before .put-word .ensures .0)),
-  omega (arith, c .before .before .put-word .ensures .1),
-)
+returns c =
+    let before = c .before .before .before .before .before .before .before .before .before .before .before .before .args
+    .before in
+    let found = c .before .before .before .before .before .number .given .1 in
+    let look = c .before .before .before .before .before .before .before .get .ensures in
+    let put = c .before .before .put-word .ensures in (
+      does-as _ _ _ _ _ _ _ _ (at-element _ _ _ look _ _ (omega arith) found)
+          (does-ending _ _ before _ _ _ _ _ _ (omega arith) (omega arith) (put .0)),
+      omega (arith, put .1),
+    )
 
 put-newline-requires : tie.Need-put-newline-requires
 put-newline-requires c κs = search needs
@@ -43,11 +50,15 @@ same-length-2 : tie.Need-same-length-2
 same-length-2 c = search needs
 
 returns-2 : tie.Need-returns-2
-returns-2 c = (
-  does-as _ _ _ _ _ _ _ _ (at-newline _ _ (c .before .before .before .before .before .get .result) (c .before .before .before .before .before .get .ensures) (c .before .before .before .before .match .keys2))
-      (does-ending _ _ (c .before .before .before .before .before .before .before .before .before .before .args .before) _ _ _ _ (c .before .before .put-newline .ensures)),
-  omega (arith, c .before .before .put-newline .ensures .next),
-)
+returns-2 c =
+    let before = c .before .before .before .before .before .before .before .before .before .before .args .before in
+    let look = c .before .before .before .before .before .get in
+    let none = c .before .before .before .before .match .keys2 in
+    let put = c .before .before .put-newline .ensures in (
+      does-as _ _ _ _ _ _ _ _ (at-newline _ _ (look .result) (look .ensures) none)
+          (does-ending _ _ before _ _ _ _ _ _ (omega arith) (omega arith) put),
+      omega (arith, put .next),
+    )
 
 pub next-element-spec : {M : Type 1} → statement M
 next-element-spec =

@@ -3,7 +3,7 @@ use mathlib.Core.Path.{_≡_, refl, sym, _∙_, ap}
 use native.Mathlib.Omega.{arith}
 use denote.Ref.{now}
 use Rattle.journals.specs.Records.{entryFor, ofRecord}
-use Rattle.plays.proofs.Done.{does-as, does-nothing, within-same, within-record, begins-unused, breaks-unused, plays-one, at-got, cut-off, cut-waits, end-told, end-waits}
+use Rattle.plays.proofs.Done.{does-as, does-nothing, does-unused, within-record, begins-unused, breaks-unused, plays-one, at-got, cut-off, cut-waits, end-told, end-waits}
 use Rattle.plays.proofs.Records.{taken-ends}
 use Rattle.plays.specs.Pieces.{doGot}
 use borrow.Author.Needs.{needs}
@@ -18,9 +18,11 @@ enum-known-operation c = search needs
 
 play-record-requires : tie.Need-play-record-requires
 play-record-requires c κs =
-    let ends = taken-ends _ _ _ _ (sym (ap ofRecord (c .before .before .before .operation .given .1)) ∙ c .before .before .before .before .before .record-at .ensures) in
-    let w = c .before .before .before .before .before .before .before .before .before .pre .1 in
-    (c .before .before .before .before .before .before .before .before .before .pre .0, omega (arith, ends .0), omega (arith, ends .0, w .0))
+    let is = sym (ap ofRecord (c .before .before .before .operation .given .1)) ∙ c .before .before .before .before
+    .before .record-at .ensures in
+    let ends = taken-ends _ _ _ _ is in
+    let pre = c .before .before .before .before .before .before .before .before .before .pre in
+    (pre .0, omega (arith, ends .0), omega (arith, ends .0, pre .1 .0))
 
 enum-told : tie.Need-enum-told
 enum-told c = search needs
@@ -42,11 +44,14 @@ same-length-2 c = search needs
 
 returns : tie.Need-returns
 unfolding doGot
-returns c = (
-  does-as _ _ _ _ _ _ _ _ (cut-off (c .before .before .before .before .before .before .before .before .before .before .before .before .args .before .used) _ _ (c .before .before .before .before .before .if1 .taken) ∙ at-got _ _ _ _ _ _ (c .before .before .before .before .before .before .enum-told2 .given .1) (c .before .before .before .before .before .before .before .before .record-at .ensures)) (c .before .before .break-off2 .ensures .0),
-  within-same _ _ _ _ _ _ _ (c .before .before .break-off2 .ensures .0) _ _ (breaks-unused _ .0) (breaks-unused _ .1) (c .before .before .before .before .before .before .before .before .before .before .before .before .pre .1)
-      (omega (arith, c .before .before .before .before .before .before .before .before .before .before .before .before .pre .0, c .before .before .break-off2 .ensures .1)),
-)
+returns c =
+    let z = c .before .before .before .before .before .before .before .before .before .before .before .before in
+    let got = at-got _ _ _ _ _ _ (c .before .before .before .before .before .before .enum-told2 .given .1) (c .before
+    .before .before .before .before .before .before .before .record-at .ensures) in
+    let broke = c .before .before .break-off2 .ensures in
+    does-unused _ _ _ _ _ _ _ _ _ _ (cut-off (z .args .before .used) _ _ (c .before .before .before .before .before .if1
+    .taken) ∙ got) (broke .0)
+    (breaks-unused _) (z .pre .1) (omega (arith, z .pre .0, broke .1))
 
 enum-told-3 : tie.Need-enum-told-3
 enum-told-3 c = search needs
@@ -62,11 +67,14 @@ same-length-4 c = search needs
 
 returns-2 : tie.Need-returns-2
 unfolding doGot
-returns-2 c = (
-  does-as _ _ _ _ _ _ _ _ (end-told (c .before .before .before .before .before .before .before .before .before .before .before .before .args .before .used) _ _ (c .before .before .before .before .before .if2 .taken) ∙ at-got _ _ _ _ _ _ (c .before .before .before .before .before .before .enum-told3 .given .1) (c .before .before .before .before .before .before .before .before .record-at .ensures)) (c .before .before .begin-last .ensures .0),
-  within-same _ _ _ _ _ _ _ (c .before .before .begin-last .ensures .0) _ _ (begins-unused _ .0) (begins-unused _ .1) (c .before .before .before .before .before .before .before .before .before .before .before .before .pre .1)
-      (omega (arith, c .before .before .before .before .before .before .before .before .before .before .before .before .pre .0, c .before .before .begin-last .ensures .1)),
-)
+returns-2 c =
+    let z = c .before .before .before .before .before .before .before .before .before .before .before .before in
+    let got = at-got _ _ _ _ _ _ (c .before .before .before .before .before .before .enum-told3 .given .1) (c .before
+    .before .before .before .before .before .before .before .record-at .ensures) in
+    let begun = c .before .before .begin-last .ensures in
+    does-unused _ _ _ _ _ _ _ _ _ _ (end-told (z .args .before .used) _ _ (c .before .before .before .before .before
+    .if2 .taken) ∙ got) (begun .0)
+    (begins-unused _) (z .pre .1) (omega (arith, z .pre .0, begun .1))
 
 same-length-5 : tie.Need-same-length-5
 same-length-5 c = search needs
@@ -77,10 +85,15 @@ same-length-6 c = search needs
 returns-3 : tie.Need-returns-3
 unfolding doGot
 returns-3 c =
-    let ends = taken-ends _ _ _ _ (sym (ap ofRecord (c .before .before .before .before .before .before .before .before .operation .given .1)) ∙ c .before .before .before .before .before .before .before .before .before .before .record-at .ensures) in (
-      does-as _ _ _ _ _ _ _ _ (at-got _ _ _ _ _ _ (c .before .before .before .before .before .before .before .before .operation .given .1) (c .before .before .before .before .before .before .before .before .before .before .record-at .ensures)) (c .before .before .before .before .play-record .ensures .0),
-      within-record _ _ _ _ _ _ _ (c .before .before .before .before .play-record .ensures .0) _ _ _ (plays-one _ _ _ .0) (plays-one _ _ _ .1) (ends .0) (ends .1) (c .before .before .before .before .before .before .before .before .before .before .before .before .before .before .pre .1)
-          (omega (arith, c .before .before .before .before .before .before .before .before .before .before .before .before .before .before .pre .0, c .before .before .before .before .play-record .ensures .1)),
+    let z = c .before .before .before .before .before .before .before .before .before .before .before .before .before
+    .before in
+    let given = c .before .before .before .before .before .before .before .before .operation .given .1 in
+    let is = c .before .before .before .before .before .before .before .before .before .before .record-at .ensures in
+    let ends = taken-ends _ _ _ _ (sym (ap ofRecord given) ∙ is) in
+    let played = c .before .before .before .before .play-record .ensures in (
+      does-as _ _ _ _ _ _ _ _ (at-got _ _ _ _ _ _ given is) (played .0),
+      within-record _ _ _ _ _ _ _ (played .0) _ _ _ (plays-one _ _ _ .0) (plays-one _ _ _ .1) (ends .0) (ends .1)
+          (z .pre .1) (omega (arith, z .pre .0, played .1)),
     )
 
 same-length-7 : tie.Need-same-length-7
@@ -91,28 +104,32 @@ same-length-8 c = search needs
 
 returns-4 : tie.Need-returns-4
 unfolding doGot
-returns-4 c = (
-  does-as _ _ _ _ _ _ _ _ (at-got _ _ _ _ _ _ (c .before .before .before .before .before .enum-told .given .1) (c .before .before .before .before .before .before .before .record-at .ensures))
-      (c .before .before .break-off .ensures .0),
-  within-same _ _ _ _ _ _ _ (c .before .before .break-off .ensures .0) _ _ (breaks-unused _ .0) (breaks-unused _ .1) (c .before .before .before .before .before .before .before .before .before .before .before .pre .1)
-      (omega (arith, c .before .before .before .before .before .before .before .before .before .before .before .pre .0, c .before .before .break-off .ensures .1)),
-)
+returns-4 c =
+    let z = c .before .before .before .before .before .before .before .before .before .before .before in
+    let broke = c .before .before .break-off .ensures in
+    does-unused _ _ _ _ _ _ _ _ _ _ (at-got _ _ _ _ _ _ (c .before .before .before .before .before .enum-told .given .1)
+    (c .before .before .before .before .before .before .before .record-at .ensures)) (broke .0)
+    (breaks-unused _) (z .pre .1) (omega (arith, z .pre .0, broke .1))
 
 returns-5 : tie.Need-returns-5
 unfolding doGot
-returns-5 c = (
-  does-as _ _ _ _ _ _ _ _ (cut-waits (c .before .before .before .before .before .before .before .args .before .used) _ _ (c .if1 .left) ∙ at-got _ _ _ _ _ _ (c .before .enum-told2 .given .1) (c .before .before .before .record-at .ensures))
-      (does-nothing _ _ (c .before .before .before .before .before .before .before .args .before)),
-  c .before .before .before .before .before .before .before .pre .1,
-)
+returns-5 c =
+    let z = c .before .before .before .before .before .before .before in
+    let got = at-got _ _ _ _ _ _ (c .before .enum-told2 .given .1) (c .before .before .before .record-at .ensures) in (
+      does-as _ _ _ _ _ _ _ _ (cut-waits (z .args .before .used) _ _ (c .if1 .left) ∙ got)
+          (does-nothing _ _ (z .args .before)),
+      z .pre .1,
+    )
 
 returns-6 : tie.Need-returns-6
 unfolding doGot
-returns-6 c = (
-  does-as _ _ _ _ _ _ _ _ (end-waits (c .before .before .before .before .before .before .before .args .before .used) _ _ (c .if2 .left) ∙ at-got _ _ _ _ _ _ (c .before .enum-told3 .given .1) (c .before .before .before .record-at .ensures))
-      (does-nothing _ _ (c .before .before .before .before .before .before .before .args .before)),
-  c .before .before .before .before .before .before .before .pre .1,
-)
+returns-6 c =
+    let z = c .before .before .before .before .before .before .before in
+    let got = at-got _ _ _ _ _ _ (c .before .enum-told3 .given .1) (c .before .before .before .record-at .ensures) in (
+      does-as _ _ _ _ _ _ _ _ (end-waits (z .args .before .used) _ _ (c .if2 .left) ∙ got)
+          (does-nothing _ _ (z .args .before)),
+      z .pre .1,
+    )
 
 pub next-record-spec : {M : Type 1} → statement M
 next-record-spec =

@@ -1,4 +1,5 @@
 -- `plays::steps::play_record` meets its contract. Assumes nothing.
+use native.Mathlib.Omega.{arith}
 use Rattle.plays.proofs.Done.{does-record}
 use borrow.Author.Needs.{needs}
 use Rattle.plays.proofs.steps.play_record.Statement.{statement}
@@ -23,11 +24,13 @@ same-length-2 : tie.Need-same-length-2
 same-length-2 c = search needs
 
 returns : tie.Need-returns
-returns c = (
-  does-record _ _ (c .before .before .before .before .before .before .before .before .before .before .before .before .before .before .args .before) _ _ _ _ _ _ _ (c .before .before .before .before .before .before .before .before .perform .ensures) (c .before .record-or .ensures)
-      (c .before .before .before .before .answer-line .ensures .0) (c .before .before .before .before .before .before .before .before .before .before .before .before .before .before .pre .1),
-  c .before .before .before .before .answer-line .ensures .1,
-)
+returns c =
+    let z = c .before .before .before .before .before .before .before .before .before .before .before .before .before
+    .before in
+    let done = c .before .before .before .before .before .before .before .before .perform .ensures in
+    let after = c .before .record-or .ensures in
+    let put = c .before .before .before .before .answer-line .ensures in
+    (does-record _ _ (z .args .before) _ _ _ _ _ _ _ _ (z .pre .1) (omega arith) done after (put .0), put .1)
 
 pub play-record-spec : {M : Type 1} → statement M
 play-record-spec =

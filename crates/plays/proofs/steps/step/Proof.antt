@@ -1,7 +1,7 @@
 -- `plays::steps::step` meets its contract. Assumes nothing.
 use mathlib.Core.Path.{_≡_, refl, sym, _∙_, ap}
 use native.Mathlib.Omega.{arith}
-use Rattle.plays.proofs.Done.{does-as, does-nothing, within-same, no-room, goes}
+use Rattle.plays.proofs.Done.{does-as, does-nothing, does-unused, no-room, goes}
 use Rattle.plays.proofs.Elements.{word-uses}
 use Rattle.plays.specs.Pieces.{next}
 use Rattle.plays.specs.Playing.{stageOf}
@@ -13,10 +13,10 @@ sub-if1 : tie.Need-sub-if1
 sub-if1 c = search needs
 
 returns : tie.Need-returns
-returns c = (
-  does-as _ _ _ _ _ _ _ _ (no-room _ _ _ _ _ (c .if1 .taken)) (does-nothing _ _ (c .before .before .before .before .before .args .before)),
-  c .before .before .before .before .before .pre,
-)
+returns c =
+    let z = c .before .before .before .before .before in
+    let short = c .if1 .taken in
+    (does-as _ _ _ _ _ _ _ _ (no-room _ _ _ _ _ (omega (arith, short))) (does-nothing _ _ (z .args .before)), z .pre)
 
 enum-told : tie.Need-enum-told
 enum-told c = search needs
@@ -41,11 +41,11 @@ same-length-2 c = search needs
 
 returns-2 : tie.Need-returns-2
 unfolding next
-returns-2 c = (
-  does-as _ _ _ _ _ _ _ _ (goes _ _ _ _ _ (c .before .before .before .before .before .before .before .before .before .before .if1 .left) _ (ap stageOf (c .before .before .before .before .before .before .before .enum-told .given .1)))
-      (c .before .before .before .before .next-record .ensures .0),
-  c .before .before .before .before .next-record .ensures .1,
-)
+returns-2 c =
+    let went = c .before .before .before .before .next-record .ensures in
+    let at-stage = ap stageOf (c .before .before .before .before .before .before .before .enum-told .given .1) in
+    let room = c .before .before .before .before .before .before .before .before .before .before .if1 .left in
+    (does-as _ _ _ _ _ _ _ _ (goes _ _ _ _ _ (omega (arith, room)) _ at-stage) (went .0), went .1)
 
 same-length-3 : tie.Need-same-length-3
 same-length-3 c = search needs
@@ -55,20 +55,25 @@ same-length-4 c = search needs
 
 returns-3 : tie.Need-returns-3
 unfolding next
-returns-3 c = (
-  does-as _ _ _ _ _ _ _ _ (goes _ _ _ _ _ (c .before .before .before .before .before .before .before .before .before .if1 .left) _ (ap stageOf (c .before .before .before .before .before .before .stage .given .1)))
-      (c .before .before .next-element .ensures .0),
-  within-same _ _ _ _ _ _ _ (c .before .before .next-element .ensures .0) _ _ (word-uses _ _ _ .0) (word-uses _ _ _ .1) (c .before .before .before .before .before .before .before .before .before .before .before .before .before .before .pre)
-      (omega (arith, c .before .before .before .before .before .before .before .before .before .if1 .left, c .before .before .before .before .before .before .before .before .before .before .before .before .before .before .pre .2, c .before .before .next-element .ensures .1)),
-)
+returns-3 c =
+    let z = c .before .before .before .before .before .before .before .before .before .before .before .before .before
+    .before in
+    let room = c .before .before .before .before .before .before .before .before .before .if1 .left in
+    let at-stage = ap stageOf (c .before .before .before .before .before .before .stage .given .1) in
+    let went = c .before .before .next-element .ensures in
+    does-unused _ _ _ _ _ _ _ _ _ _ (goes _ _ _ _ _ (omega (arith, room)) _ at-stage) (went .0) (word-uses _ _ _)
+    (z .pre) (omega (arith, room, z .pre .2, went .1))
 
 returns-4 : tie.Need-returns-4
 unfolding next
-returns-4 c = (
-  does-as _ _ _ _ _ _ _ _ (goes _ _ _ _ _ (c .before .before .before .if1 .left) _ (ap stageOf (c .enum-told2 .given .1)))
-      (does-nothing _ _ (c .before .before .before .before .before .before .before .before .args .before)),
-  c .before .before .before .before .before .before .before .before .pre,
-)
+returns-4 c =
+    let z = c .before .before .before .before .before .before .before .before in
+    let room = c .before .before .before .if1 .left in
+    let at-stage = ap stageOf (c .enum-told2 .given .1) in (
+      does-as _ _ _ _ _ _ _ _ (goes _ _ _ _ _ (omega (arith, room)) _ at-stage)
+          (does-nothing _ _ (z .args .before)),
+      z .pre,
+    )
 
 pub step-spec : {M : Type 1} → statement M
 step-spec =

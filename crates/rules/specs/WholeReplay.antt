@@ -3,11 +3,11 @@ use mathlib.Core.Bool.{Bool, false, true, _||_}
 use mathlib.Core.List.{List, [], _∷_, _++_, map}
 use Prim.Native.Nat.{ℕ, zero, suc, _+_, _-_}
 use lib.ListN.{length, replicate}
 use Rattle.rules.specs.Journals.{Entry, recordAt, taken, doEntry, broken, cut, ended}
 use Rattle.rules.specs.Records.{Rec, held, newRec}
 use Rattle.rules.specs.Refusals.{onQueue}
-use Rattle.rules.specs.Replays.{answerLine, brokenLine, decimal, lineOf, recOr, mostPlayed}
+use Rattle.rules.specs.Replays.{answerLine, brokenLine, decimal, lineOf, recOr}
 use Rattle.rules.specs.Choices.{unless}
 
 -- the last line's first word
 abbrev pub endWord : List ℕ
@@ -103,6 +103,10 @@ starting b = record { slots = b; queue = newRec 0; stage = inRecords }
 -- what a journal s does to a queue in the slots b: each record takes at least a byte
 unfoldable pub replayOf : List ℕ → List ℕ → Part
 replayOf b s = replayed (length s) s 0 (starting b)
+
+-- the number of slots of the replay program
+abbrev pub mostPlayed : ℕ
+mostPlayed = 16000
 
 -- the slots of the replay program: they are its own, and zero at first
 unfoldable pub zeros : List ℕ
