@@ -1,1 +1,2 @@
+mod Bytes
 mod Signs

@@ -24,10 +24,11 @@ not-below (negsuc n) e = subst T e tt
 
 pub unsigned : (w : Width) (z : ℤ) → SFits w z → 2 ^ hbits w < 2 ^ bits w → ltZ (toZ w (ofZ w z)) (pos 0) ≡ false
     → T (nonNeg (toZ w (ofZ w z))) × Fits w (natAbs (toZ w (ofZ w z)))
-unsigned w z fits room e =
-    (not-below (toZ w (ofZ w z)) e,
-    subst (λ (v : ℤ). Fits w (natAbs v)) (sym (toZ-ofZ w z fits))
-    (record { fits = lt-of-le-of-lt (natAbs-le z (fits .sfits)) room }))
+unsigned w z fits room e = (
+  not-below (toZ w (ofZ w z)) e,
+  subst (λ (v : ℤ). Fits w (natAbs v)) (sym (toZ-ofZ w z fits))
+      (record { fits = lt-of-le-of-lt (natAbs-le z (fits .sfits)) room }),
+)
 
 -- what is below 0 has no such number
 pub no-number : (n : ℕ) → ltZ (pos n) (pos 0) ≡ true → ⊥

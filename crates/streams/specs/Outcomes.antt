@@ -5,6 +5,8 @@ use lib.Dec.{eqb}
 use lib.IntN.{ℤ, pos, negsuc}
 use Rattle.streams.specs.declared.judging.Outcome.{Outcome}
 use Rattle.streams.specs.declared.judging.Outcome.the-variants.{Moved, Nothing, Again, Failed}
+use Rattle.streams.specs.declared.moving.Got.{Got}
+use Rattle.streams.specs.declared.moving.Got.the-variants.{Bytes, End, Failed as NotRead}
 
 -- so many bytes moved, or none
 abbrev pub moving : ℕ → Outcome
@@ -20,3 +22,16 @@ passing (negsuc n) = false
 abbrev pub outcome : ℤ → ℤ → Outcome
 outcome (pos n) error = moving n
 outcome (negsuc n) error = cond (passing error) Again (Failed error)
+
+-- the bytes that moved
+abbrev pub bytesOf : Outcome → ℕ
+bytesOf (Moved n) = n
+bytesOf Nothing = 0
+bytesOf Again = 0
+bytesOf (Failed error) = 0
+
+-- the bytes that were read
+abbrev pub bytesIn : Got → ℕ
+bytesIn (Bytes n) = n
+bytesIn End = 0
+bytesIn (NotRead error) = 0
