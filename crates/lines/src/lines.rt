@@ -119,8 +119,8 @@ pub fn answer_line(
 
 // Puts the line of a broken, unknown or cut record.
 pub fn broken_line(out: &mut [u8], at: usize, q: Deque) -> usize
-    requires { ⌜ at + 105 ≤ length (now out) ⌝ }
-    ensures { λ r. ⌜ Puts (now (out .entry)) (now (out .exit)) at r (brokenLine (recOf q)) × (r ≤ at + 105) ⌝ }
+    requires { ⌜ at + 84 ≤ length (now out) ⌝ }
+    ensures { λ r. ⌜ Puts (now (out .entry)) (now (out .exit)) at r (brokenLine (recOf q)) × (r ≤ at + 84) ⌝ }
 {
     let a = put_numbers(out, at, 5, 0, q);
     put_newline(out, a)

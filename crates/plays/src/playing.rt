@@ -1,5 +1,10 @@
 // Where a replay stands, and what a call of it has done.
 use queue::Deque;
+ghost use mathlib.Core.List.{List};
+ghost use mathlib.Core.Path.{_≡_};
+ghost use Prim.Native.Nat.{ℕ};
+ghost use Rattle.plays.specs.Playing.{playOf};
+ghost use Rattle.plays.specs.Whole.{starting};
 
 // Where a replay stands: in the records, in the last line before element i, or behind it.
 pub enum Stage {
@@ -25,7 +30,9 @@ pub struct Advanced {
 }
 
 // A replay before its first byte, on an empty queue.
-pub fn start() -> Playing {
+pub fn start() -> Playing
+    ensures { λ r. ⌜ ((b : List ℕ) → playOf b r ≡ starting b) ⌝ }
+{
     Playing {
         queue: queue::new_record(0),
         stage: Stage::Records,
