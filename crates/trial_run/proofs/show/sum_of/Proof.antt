@@ -3,8 +3,8 @@ use mathlib.Core.Path.{_≡_}
 use native.Mathlib.Omega.{arith}
 use lib.ListN.{length, length-set}
 use borrow.Author.Needs.{needs}
-use Rattle.trial.proofs.show.sum_of.Statement.{statement}
-use Rattle.trial.proofs.show.sum_of.Tie as tie
+use Rattle.trial_run.proofs.show.sum_of.Statement.{statement}
+use Rattle.trial_run.proofs.show.sum_of.Tie as tie
 
 abbrev Inv-loop : tie.InvT-loop
 Inv-loop slots sum₀ i₀ i-end sum i = (i ≤ length slots) × (i-end ≡ length slots)

@@ -1,7 +1,7 @@
 use mathlib.Core.Path.{_∙_}
 use borrow.Author.Needs.{needs}
-use Rattle.trial.proofs.play.play.Statement.{statement}
-use Rattle.trial.proofs.play.play.Tie as tie
+use Rattle.trial_run.proofs.play.play.Statement.{statement}
+use Rattle.trial_run.proofs.play.play.Tie as tie
 
 fill-requires : tie.Need-fill-requires
 fill-requires c κs = search needs

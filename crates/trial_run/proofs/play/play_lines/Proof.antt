@@ -3,8 +3,8 @@ use mathlib.Core.Path.{_≡_, _∙_}
 use native.Mathlib.Omega.{arith}
 use lib.ListN.{length, length-set}
 use borrow.Author.Needs.{needs}
-use Rattle.trial.proofs.play.play_lines.Statement.{statement}
-use Rattle.trial.proofs.play.play_lines.Tie as tie
+use Rattle.trial_run.proofs.play.play_lines.Statement.{statement}
+use Rattle.trial_run.proofs.play.play_lines.Tie as tie
 
 abbrev Inv-loop : tie.InvT-loop
 Inv-loop buf₀ a-slots₀ b-slots₀ out₀ now₀ number₀ buf a-slots b-slots out now number =
