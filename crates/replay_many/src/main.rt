@@ -1,52 +1,75 @@
 // Runs many journals: standard input is, again and again, a length of four bytes
 // big-endian and that many bytes of a journal. Each journal is run as by `replay`,
 // in the same slots, in which the values of the journals before it still stand.
-use libc::STDIN_FILENO;
+mod headers; // headers.rt: the length before a journal
+mod journal; // journal.rt: one journal, and what is said of it
 
-// What stands before the next journal: its length, or the end of the input.
-enum Header {
-    Length(u32),
-    End,
+use headers::Header;
+use headers::next_header;
+use journal::run_one;
+use journal::say_cut;
+use replays::BUFFER;
+use replays::SLOTS;
+use streams::Status;
+
+// Whether more journals may follow one with this status, and with which status of all so far.
+enum Going {
+    On(Status),
+    End(Status),
 }
 
-// Reads the length of the next journal. One that is cut short is the end.
-fn next_header() -> Header {
-    let mut bytes = [0u8; 4];
-    let n = io::read_full(STDIN_FILENO, &mut bytes);
-    if n < 4 {
-        return Header::End;
+// Runs the next journal; a broken one does not keep the others from being run.
+fn run_next(
+    program: &[u8],
+    slots: &mut [u32; SLOTS],
+    input: &mut [u8; BUFFER],
+    out: &mut [u8; BUFFER],
+    number: u64,
+    so_far: Status,
+) -> Going {
+    match next_header(program) {
+        Header::Length(length) => {
+            match run_one(program, slots, input, out, number, length) {
+                Status::Well => Going::On(so_far),
+                Status::Broken => Going::On(Status::Broken),
+                Status::ReadFailed => Going::End(Status::ReadFailed),
+                Status::WriteFailed => Going::End(Status::WriteFailed),
+            }
+        }
+        Header::End => Going::End(so_far),
+        Header::Cut => {
+            say_cut(program, number);
+            streams::say(b"its length has fewer than 4 bytes\n");
+            Going::End(Status::Broken)
+        }
+        Header::Failed => Going::End(Status::ReadFailed),
     }
-    Header::Length(images::four_at(&bytes, 0))
-}
-
-// Runs a journal of that length, and passes over what a broken
-// record left unread; false where a write failed or the input ended.
-fn run_one(slots: &mut [u32], input: &mut [u8], out: &mut [u8], length: u32) -> bool {
-    let replayed = replays::replay(slots, input, out, length as u64);
-    if replayed.open {
-        return replays::pass_over(input, replayed.unread);
-    }
-    false
 }
 
 // Runs one journal after the other. A proved loop has to end, and
-// nothing says that the input does: the journals are counted down.
-fn run_all(slots: &mut [u32], input: &mut [u8], out: &mut [u8]) {
-    let mut turns = u64::MAX;
-    while turns > 0 {
-        turns -= 1;
-        let Header::Length(length) = next_header() else {
-            return;
-        };
-        if !run_one(slots, input, out, length) {
-            return;
+// nothing says that the input does: the journals are counted.
+fn run_all(
+    program: &[u8],
+    slots: &mut [u32; SLOTS],
+    input: &mut [u8; BUFFER],
+    out: &mut [u8; BUFFER],
+) -> Status {
+    let mut status = Status::Well;
+    for number in 1..u64::MAX {
+        match run_next(program, slots, input, out, number, status) {
+            Going::On(so_far) => {
+                status = so_far;
+            }
+            Going::End(last) => return last,
         }
     }
+    status
 }
 
 fn main() {
-    let mut slots = [0u32; replays::SLOTS];
-    let mut input = io::large_buffer();
-    let mut out = io::large_buffer();
-    run_all(&mut slots, &mut input, &mut out);
+    let mut slots = [0u32; SLOTS];
+    let mut input = [0u8; BUFFER];
+    let mut out = [0u8; BUFFER];
+    let status = run_all(b"replay_many", &mut slots, &mut input, &mut out);
+    streams::leave(status);
 }

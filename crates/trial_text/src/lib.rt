@@ -21,6 +21,7 @@ pub use words::Read;
 pub use words::first_line;
 pub use words::next_words;
 pub use writing::flush;
+pub use writing::has_failed;
 pub use writing::put_byte;
 pub use writing::put_number;
 pub use writing::put_slots;

@@ -1,5 +1,5 @@
 // Standard input, one line at a time. It is read in pieces through a buffer, so a script may have any length.
-use libc::STDIN_FILENO;
+use streams::Got;
 
 // How much of the piece in the buffer was used, and how many bytes it has.
 pub struct Piece {
@@ -7,10 +7,11 @@ pub struct Piece {
     pub end: usize,
 }
 
-// The next byte of the input, with the piece behind it.
+// The next byte of the input, with the piece behind it. A read that failed was said.
 pub enum Byte {
     Read { byte: u8, piece: Piece },
     End,
+    Failed,
 }
 
 // The next line of the input, its bytes counted without the newline.
@@ -18,6 +19,7 @@ pub enum Line {
     Whole { len: usize, piece: Piece },
     TooLong,
     End,
+    Failed,
 }
 
 // Before anything was read.
@@ -25,19 +27,24 @@ pub fn nothing_read() -> Piece {
     Piece { used: 0, end: 0 }
 }
 
-// Reads the next piece, and takes its first byte. A read that fails ends the input.
-fn first_of_piece(buf: &mut [u8]) -> Byte {
-    let got = libc::read(STDIN_FILENO, buf);
-    let end = io::count(got, buf);
-    if 0 < end {
-        if 0 < buf.len() {
-            return Byte::Read {
-                byte: buf[0],
-                piece: Piece { used: 1, end },
-            };
-        }
+// Takes the first byte of a piece of that many bytes.
+fn first_of_piece(buf: &[u8], end: usize) -> Byte {
+    if 0 < buf.len() {
+        return Byte::Read {
+            byte: buf[0],
+            piece: Piece { used: 1, end },
+        };
     }
     Byte::End
+}
+
+// Reads the next piece, and takes its first byte.
+fn next_piece(buf: &mut [u8]) -> Byte {
+    match streams::read_input(b"trial", buf) {
+        Got::Bytes(end) => first_of_piece(buf, end),
+        Got::End => Byte::End,
+        Got::Failed(_) => Byte::Failed,
+    }
 }
 
 // Takes the next byte.
@@ -55,7 +62,7 @@ fn next_byte(buf: &mut [u8], piece: Piece) -> Byte {
             };
         }
     }
-    first_of_piece(buf)
+    next_piece(buf)
 }
 
 // What stands behind the last newline: a line, unless it is empty.
@@ -81,6 +88,7 @@ pub fn next_line(buf: &mut [u8], piece: Piece, line: &mut [u8]) -> Line {
                 now = piece;
             }
             Byte::End => return last_line(len, now),
+            Byte::Failed => return Line::Failed,
         }
     }
     Line::TooLong

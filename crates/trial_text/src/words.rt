@@ -31,6 +31,7 @@ pub enum Read {
     Words { count: usize, piece: Piece },
     Broken,
     End,
+    Failed,
 }
 
 // What a script's first line gives.
@@ -38,6 +39,7 @@ pub enum First {
     Capacities { a: usize, b: usize, piece: Piece },
     Broken,
     End,
+    Failed,
 }
 
 // The digit that a byte writes; 10 where it writes none.
@@ -135,6 +137,7 @@ pub fn next_words(buf: &mut [u8], piece: Piece, words: &mut [usize]) -> Read {
         ),
         Line::TooLong => Read::Broken,
         Line::End => Read::End,
+        Line::Failed => Read::Failed,
     }
 }
 
@@ -177,5 +180,6 @@ pub fn first_line(buf: &mut [u8]) -> First {
         Line::Whole { len, piece } => capacities(front(&line, len), piece),
         Line::TooLong => First::Broken,
         Line::End => First::End,
+        Line::Failed => First::Failed,
     }
 }

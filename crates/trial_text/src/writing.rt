@@ -1,6 +1,19 @@
 // What the program writes goes through a buffer, which is written out when it is full and at the end. `at` is the
-// number of bytes that it holds, and each function answers the number that it then holds.
-use libc::STDOUT_FILENO;
+// number of bytes that it holds, and each function answers the number that it then holds. A write that fails is said;
+// from then on `at` is past the buffer's end, and nothing is put or written any more.
+
+// Writes out what the buffer holds, and answers whether it is written.
+pub fn flush(out: &[u8], at: usize) -> bool {
+    if at <= out.len() {
+        return streams::write_output(b"trial", &out[0..at]);
+    }
+    false
+}
+
+// Whether a write failed.
+pub fn has_failed(out: &[u8], at: usize) -> bool {
+    out.len() < at
+}
 
 // Puts a byte.
 pub fn put_byte(out: &mut [u8], at: usize, byte: u8) -> usize {
@@ -8,19 +21,13 @@ pub fn put_byte(out: &mut [u8], at: usize, byte: u8) -> usize {
         out[at] = byte;
         return at + 1;
     }
-    io::write_all(STDOUT_FILENO, out);
-    if 0 < out.len() {
-        out[0] = byte;
-        return 1;
+    if flush(out, at) {
+        if 0 < out.len() {
+            out[0] = byte;
+            return 1;
+        }
     }
-    0
-}
-
-// Writes out what the buffer holds.
-pub fn flush(out: &[u8], at: usize) {
-    if at <= out.len() {
-        io::write_all(STDOUT_FILENO, &out[0..at]);
-    }
+    usize::MAX
 }
 
 // Puts every byte of a text.
