@@ -17,23 +17,20 @@ impl<'q> Iter<'q> {
     pub(crate) fn over(front: &'q [u32], back: &'q [u32]) -> Iter<'q> {
         Iter { front: front.iter(), back: back.iter() }
     }
+}
 
-    /// The first element of what is left of the second run, once the first one is over.
-    // Apart, so that a loop over a run is as short as over a slice; the same for the other end.
-    #[cold]
-    #[inline(never)]
-    fn next_run(&mut self) -> Option<u32> {
-        self.front = mem::take(&mut self.back);
-        self.front.next().copied()
-    }
+/// The first element of a run, and what is left of it. Apart, so that a loop over the run before stays short.
+#[cold]
+#[inline(never)]
+fn begin(mut run: slice::Iter<'_, u32>) -> (Option<u32>, slice::Iter<'_, u32>) {
+    (run.next().copied(), run)
+}
 
-    /// The last element of what is left of the first run, once the second one is over.
-    #[cold]
-    #[inline(never)]
-    fn last_run(&mut self) -> Option<u32> {
-        self.back = mem::take(&mut self.front);
-        self.back.next_back().copied()
-    }
+/// The last element of a run, and what is left of it.
+#[cold]
+#[inline(never)]
+fn begin_back(mut run: slice::Iter<'_, u32>) -> (Option<u32>, slice::Iter<'_, u32>) {
+    (run.next_back().copied(), run)
 }
 
 impl Iterator for Iter<'_> {
@@ -43,7 +40,11 @@ impl Iterator for Iter<'_> {
     fn next(&mut self) -> Option<u32> {
         match self.front.next() {
             Some(x) => Some(*x),
-            None => self.next_run(),
+            None => {
+                let (first, rest) = begin(mem::take(&mut self.back));
+                self.front = rest;
+                first
+            }
         }
     }
 
@@ -80,7 +81,11 @@ impl DoubleEndedIterator for Iter<'_> {
     fn next_back(&mut self) -> Option<u32> {
         match self.back.next_back() {
             Some(x) => Some(*x),
-            None => self.last_run(),
+            None => {
+                let (last, rest) = begin_back(mem::take(&mut self.front));
+                self.back = rest;
+                last
+            }
         }
     }
 
