@@ -8,3 +8,4 @@ pub mod Calls
 pub mod Whole
 pub mod Rest
 pub mod Theorems
+pub mod WholeCase
