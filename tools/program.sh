@@ -15,7 +15,8 @@ give_up() {
 # Finds the kit. The program is for x86-64: on Arm the kit's emulator runs it.
 find_kit() {
     rt=$(command -v rt) ||
-        give_up 2 "the Rattle kit is missing: put its bin/ on PATH, so that 'rt version' answers (docs/DECISIONS.md says which kit)"
+        give_up 2 "the Rattle kit is missing: put its bin/ on PATH, so that 'rt version' answers" \
+            '(docs/DECISIONS.md says which kit)'
     while [ -L "$rt" ]; do
         link=$(readlink "$rt")
         case $link in /*) rt=$link ;; *) rt=$(dirname "$rt")/$link ;; esac
@@ -63,7 +64,8 @@ run() {
     case $status in
     [0-4]) ;;
     *)
-        echo "$name: the program was ended before its time (status $ended): what it wrote is not complete; run it again" >&2
+        echo "$name: the program was ended before its time (status $ended): what it wrote is not complete;" \
+            "run it again" >&2
         status=2
         ;;
     esac

@@ -1,7 +1,7 @@
-use Prim.Native.Nat.{_+_, _-_, _≤_, _<_}
-use mathlib.Core.Path.{_≡_, _∙_}
-use native.Mathlib.Omega.{arith}
-use lib.ListN.{length, length-set}
+-- `trial_run::play::play_lines` is safe and ends: the lines are counted. Assumes nothing.
+use Prim.Native.Nat.{_-_}
+use mathlib.Core.Path.{_≡_}
+use lib.ListN.{length}
 use borrow.Author.Needs.{needs}
 use Rattle.trial_run.proofs.play.play_lines.Statement.{statement}
 use Rattle.trial_run.proofs.play.play_lines.Tie as tie
@@ -30,18 +30,13 @@ loop-less : tie.Need-loop-less Inv-loop μ-loop
 loop-less c = search needs
 
 loop-again : tie.Need-loop-again Inv-loop μ-loop
-loop-again c =
-    let k = c .before .before .before .before .before .before .before .before .before .before .before .play-next .kept
-    in
-    let i = c .before .before .before .before .before .before .before .before .before .before .before .before .before
-    .before .before .before .before .loop .inv in
-    (k .0 ∙ i .0, k .1 .0 ∙ i .1, k .1 .1 .0 ∙ i .2, k .1 .1 .1 .0 ∙ i .3)
+loop-again c = search needs
 
 enum-told : tie.Need-enum-told Inv-loop μ-loop
 enum-told c = search needs
 
-put-broken-requires : tie.Need-put-broken-requires Inv-loop μ-loop
-put-broken-requires c κs = search needs
+break-off-requires : tie.Need-break-off-requires Inv-loop μ-loop
+break-off-requires c κs = search needs
 
 same-length : tie.Need-same-length Inv-loop μ-loop
 same-length c = search needs
@@ -61,6 +56,9 @@ returns c = search needs
 enum-told-2 : tie.Need-enum-told-2 Inv-loop μ-loop
 enum-told-2 c = search needs
 
+leaves-requires : tie.Need-leaves-requires Inv-loop μ-loop
+leaves-requires c κs = search needs
+
 same-length-5 : tie.Need-same-length-5 Inv-loop μ-loop
 same-length-5 c = search needs
 
@@ -75,6 +73,12 @@ same-length-8 c = search needs
 
 returns-2 : tie.Need-returns-2 Inv-loop μ-loop
 returns-2 c = search needs
+
+enum-told-3 : tie.Need-enum-told-3 Inv-loop μ-loop
+enum-told-3 c = search needs
+
+leaves-requires-2 : tie.Need-leaves-requires-2 Inv-loop μ-loop
+leaves-requires-2 c κs = search needs
 
 same-length-9 : tie.Need-same-length-9 Inv-loop μ-loop
 same-length-9 c = search needs
@@ -91,6 +95,45 @@ same-length-12 c = search needs
 returns-3 : tie.Need-returns-3 Inv-loop μ-loop
 returns-3 c = search needs
 
+enum-told-4 : tie.Need-enum-told-4 Inv-loop μ-loop
+enum-told-4 c = search needs
+
+leaves-requires-3 : tie.Need-leaves-requires-3 Inv-loop μ-loop
+leaves-requires-3 c κs = search needs
+
+same-length-13 : tie.Need-same-length-13 Inv-loop μ-loop
+same-length-13 c = search needs
+
+same-length-14 : tie.Need-same-length-14 Inv-loop μ-loop
+same-length-14 c = search needs
+
+same-length-15 : tie.Need-same-length-15 Inv-loop μ-loop
+same-length-15 c = search needs
+
+same-length-16 : tie.Need-same-length-16 Inv-loop μ-loop
+same-length-16 c = search needs
+
+returns-4 : tie.Need-returns-4 Inv-loop μ-loop
+returns-4 c = search needs
+
+leaves-requires-4 : tie.Need-leaves-requires-4 Inv-loop μ-loop
+leaves-requires-4 c κs = search needs
+
+same-length-17 : tie.Need-same-length-17 Inv-loop μ-loop
+same-length-17 c = search needs
+
+same-length-18 : tie.Need-same-length-18 Inv-loop μ-loop
+same-length-18 c = search needs
+
+same-length-19 : tie.Need-same-length-19 Inv-loop μ-loop
+same-length-19 c = search needs
+
+same-length-20 : tie.Need-same-length-20 Inv-loop μ-loop
+same-length-20 c = search needs
+
+returns-5 : tie.Need-returns-5 Inv-loop μ-loop
+returns-5 c = search needs
+
 pub play-lines-spec : {M : Type 1} → statement M
 play-lines-spec =
     tie.close
@@ -104,20 +147,36 @@ play-lines-spec =
     loop-less
     loop-again
     enum-told
-    put-broken-requires
+    break-off-requires
     same-length
     same-length-2
     same-length-3
     same-length-4
     returns
     enum-told-2
+    leaves-requires
     same-length-5
     same-length-6
     same-length-7
     same-length-8
     returns-2
+    enum-told-3
+    leaves-requires-2
     same-length-9
     same-length-10
     same-length-11
     same-length-12
-    returns-3)
+    returns-3
+    enum-told-4
+    leaves-requires-3
+    same-length-13
+    same-length-14
+    same-length-15
+    same-length-16
+    returns-4
+    leaves-requires-4
+    same-length-17
+    same-length-18
+    same-length-19
+    same-length-20
+    returns-5)
