@@ -7,25 +7,26 @@
 //! Why that is sound:
 //! - The pointer comes from the `&'a mut [u32]` that was lent: for `'a`, only this queue reads and writes the slots.
 //! - A call with `&mut self` is alone with the queue: whatever references earlier calls gave are not used any more.
-//! - Calls with `&self` only read, but for the one that makes DRAINING into CLOSING. Until it makes that SHUT, every
-//!   other call with `&self` waits; and none before it has given a reference since the drain was opened, for it would
-//!   have closed the drain itself. A drain is opened with `&mut self`, so once SHUT is seen with `&self`, nothing is
-//!   written as long as the reference that was given is used.
-//! - SHUT is stored with `Release` and read with `Acquire`: who sees it sees the elements in their new places.
+//! - Calls with `&self` only read, but for the one that makes the mark DRAINING into CLOSING. Until it has taken that
+//!   mark off, every other call with `&self` waits; and none before it has given a reference since the drain was
+//!   opened, for it would have closed the drain itself. A drain is opened with `&mut self`, so once a call with `&self`
+//!   sees no mark, nothing is written as long as the reference that it gives is used.
+//! - A mark is taken off with `Release` and read with `Acquire`: who sees none sees the elements in their new places.
 use crate::raw::{self, Record, Reply};
 use crate::Refusal;
 use core::cell::UnsafeCell;
 use core::hint::spin_loop;
 use core::marker::PhantomData;
 use core::ptr::NonNull;
-use core::sync::atomic::{AtomicU8, Ordering};
+use core::slice;
+use core::sync::atomic::{AtomicUsize, Ordering};
 
-/// No drain is open.
-const SHUT: u8 = 0;
+/// The most slots of a queue. What is above is a mark:
+const MOST_SLOTS: usize = 16_000;
 /// A drain is open, or was leaked.
-const DRAINING: u8 = 1;
+const DRAINING: usize = usize::MAX;
 /// A leaked drain is being closed by a call with `&self`.
-const CLOSING: u8 = 2;
+const CLOSING: usize = usize::MAX - 1;
 
 /// What a queue keeps beside its slots.
 pub(crate) struct Kept {
@@ -57,8 +58,10 @@ impl Kept {
 /// The lent slots and what is kept beside them. The record is good for the slots.
 pub(crate) struct Lent<'a> {
     slots: NonNull<[u32]>,
+    /// The number of the slots, or a mark while a drain is open. A call needs the number in any case, so that asking
+    /// for a mark costs it one comparison and no load.
+    number: AtomicUsize,
     kept: UnsafeCell<Kept>,
-    state: AtomicU8,
     borrow: PhantomData<&'a mut [u32]>,
 }
 
@@ -70,9 +73,9 @@ impl<'a> Lent<'a> {
     /// The slots with a good record over them.
     pub fn new(slots: &'a mut [u32], record: Record, moved: usize) -> Lent<'a> {
         Lent {
+            number: AtomicUsize::new(slots.len()),
             slots: NonNull::from(slots),
             kept: UnsafeCell::new(Kept { record, moved, drain: raw::Drain::default() }),
-            state: AtomicU8::new(SHUT),
             borrow: PhantomData,
         }
     }
@@ -80,20 +83,23 @@ impl<'a> Lent<'a> {
     /// The slots and what is kept, to look at.
     #[inline]
     pub fn look(&self) -> (&[u32], &Kept) {
-        if self.state.load(Ordering::Acquire) != SHUT {
-            self.close_leaked();
+        let mut number = self.number.load(Ordering::Acquire);
+        if number > MOST_SLOTS {
+            number = self.close_leaked();
         }
-        // SAFETY: shut, so that nothing is written while `&self` is used.
-        unsafe { (self.slots.as_ref(), &*self.kept.get()) }
+        // SAFETY: it is no mark but the number of the slots, and nothing is written while `&self` is used.
+        unsafe { (slice::from_raw_parts(self.slots.cast().as_ptr(), number), &*self.kept.get()) }
     }
 
     /// The slots and what is kept, to change.
     #[inline]
     pub fn change(&mut self) -> (&mut [u32], &mut Kept) {
-        if *self.state.get_mut() != SHUT {
-            self.close_leaked();
+        let mut number = *self.number.get_mut();
+        if number > MOST_SLOTS {
+            number = self.close_leaked();
         }
-        self.alone()
+        // SAFETY: it is no mark but the number of the slots, and `&mut self` is the only way to them.
+        (unsafe { slice::from_raw_parts_mut(self.slots.cast().as_ptr(), number) }, self.kept.get_mut())
     }
 
     /// The slots and what is kept, whether a drain is open or not.
@@ -109,7 +115,7 @@ impl<'a> Lent<'a> {
         let (slots, kept) = self.change();
         let reply = raw::drain(slots, &kept.record, start, end, &mut kept.drain);
         Refusal::of(reply.refused)?;
-        *self.state.get_mut() = DRAINING;
+        *self.number.get_mut() = DRAINING;
         Ok(())
     }
 
@@ -123,27 +129,28 @@ impl<'a> Lent<'a> {
     /// Closes the open drain.
     #[inline]
     pub fn close(&mut self) {
-        *self.state.get_mut() = SHUT;
+        *self.number.get_mut() = self.slots.len();
         let (slots, kept) = self.alone();
         let refused = close(slots, kept);
         debug_assert_eq!(refused, 0);
     }
 
-    /// Closes a leaked drain, or waits until another thread has closed it.
+    /// Closes a leaked drain, or waits until another thread has closed it. Gives the number of the slots.
     #[cold]
-    fn close_leaked(&self) {
+    fn close_leaked(&self) -> usize {
         loop {
-            match self.state.compare_exchange(DRAINING, CLOSING, Ordering::Acquire, Ordering::Acquire) {
+            match self.number.compare_exchange(DRAINING, CLOSING, Ordering::Acquire, Ordering::Acquire) {
                 Ok(_) => break,
-                Err(SHUT) => return,
-                Err(_) => spin_loop(),
+                Err(CLOSING) => spin_loop(),
+                Err(number) => return number,
             }
         }
-        // SAFETY: only one call makes DRAINING into CLOSING, and no other goes on before SHUT.
+        // SAFETY: only one call makes DRAINING into CLOSING, and no other goes on before that is taken off.
         let (slots, kept) = unsafe { (&mut *self.slots.as_ptr(), &mut *self.kept.get()) };
         let refused = close(slots, kept);
-        self.state.store(SHUT, Ordering::Release);
+        self.number.store(self.slots.len(), Ordering::Release);
         debug_assert_eq!(refused, 0);
+        self.slots.len()
     }
 }
 
@@ -170,7 +177,7 @@ mod tests {
         let mut slots = [1, 2];
         let lent = Lent::new(&mut slots, Record { head: 0, len: 2 }, 0);
         let closed = AtomicBool::new(false);
-        lent.state.store(CLOSING, Ordering::Relaxed);
+        lent.number.store(CLOSING, Ordering::Relaxed);
         thread::scope(|scope| {
             scope.spawn(|| {
                 lent.look();
@@ -178,7 +185,7 @@ mod tests {
             });
             thread::sleep(Duration::from_millis(50));
             closed.store(true, Ordering::Relaxed);
-            lent.state.store(SHUT, Ordering::Release);
+            lent.number.store(2, Ordering::Release);
         });
     }
 }
