@@ -33,8 +33,8 @@ enum Going {
     End(Status),
 }
 
-// A replay between two steps: where it stands in the journal, the records that it played, whether the journal broke, the
-// bytes that wait in the input's buffer, and those that may still be read.
+// A replay between two steps: where it stands in the journal, the records that it played, whether the journal broke,
+// the bytes that wait in the input's buffer, and those that may still be read.
 struct Run {
     playing: Playing,
     records: u64,

@@ -1,5 +1,5 @@
-// What a program says on standard error, under its name, and the status that it leaves. A sentence that can't be written
-// there is lost: there is nobody left to tell.
+// What a program says on standard error, under its name. A sentence that can't be written there is lost: there is
+// nobody left to tell.
 use crate::moving::Got;
 use crate::moving::Put;
 use crate::moving::read;

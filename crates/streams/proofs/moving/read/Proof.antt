@@ -1,4 +1,5 @@
--- `streams::moving::read` is safe and ends, and reads no more than the buffer holds: the tries are counted down. Assumes nothing.
+-- `streams::moving::read` is safe and ends, and reads no more than the buffer holds: the tries are counted down.
+-- Assumes nothing.
 use Rattle.streams.proofs.Bytes.{known-bytes}
 use mathlib.Core.Path.{_≡_}
 use Prim.Native.Nat.{_≤_}

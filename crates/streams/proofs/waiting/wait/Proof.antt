@@ -1,5 +1,5 @@
--- `streams::waiting::wait` is safe and ends: a walk of its MIR, by hand, since it lends two structs. Each stands in a local, is lent for a
--- lifetime that is made for the call, and comes back when that is ended. Assumes nothing.
+-- `streams::waiting::wait` is safe and ends: a walk of its MIR, by hand, since it lends two structs. Each stands in a
+-- local, is lent for a lifetime that is made for the call, and comes back when that is ended. Assumes nothing.
 use mathlib.Core.Path.{_≡_, refl}
 use Prim.Native.Nat.{ℕ}
 use mathlib.Core.List.{[], _∷_, List}
