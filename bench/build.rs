@@ -12,7 +12,7 @@ fn first_line(program: &str, argument: &str) -> String {
 
 fn main() {
     println!("cargo:rerun-if-env-changed=MEASURED_ARCHIVE");
-    let archive = env::var("MEASURED_ARCHIVE").expect("run bench/run.sh, which makes the archives and says where they are");
+    let archive = env::var("MEASURED_ARCHIVE").expect("run bench/run.sh, which makes the archives and names them");
     println!("cargo:rerun-if-changed={archive}");
     let folder = Path::new(&archive).parent().expect("a file stands in a folder");
     println!("cargo:rustc-link-search=native={}", folder.display());

@@ -22,7 +22,7 @@ pub struct Answer {
     pub handed: Given,
 }
 
-// Document 01's number of a refusal.
+// The number of a refusal.
 pub fn number_of(refusal: Refusal) -> usize
     ensures { λ r. ⌜ r ≡ numberOf refusal ⌝ }
 {

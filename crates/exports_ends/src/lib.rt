@@ -1,4 +1,5 @@
-// The calls for C and Rust that add an element at an end, or hand the one there over. What crosses is said in `replies`.
+// The calls for C and Rust that add an element at an end, or hand the one there over. What crosses is said in
+// `replies`.
 use replies::RECORD;
 use replies::Reply;
 use replies::changed;

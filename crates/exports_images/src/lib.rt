@@ -1,5 +1,5 @@
-// The calls for C and Rust that make a queue, empty or of a saved image, and the one that saves it. What crosses is said
-// in `replies`.
+// The calls for C and Rust that make a queue, empty or of a saved image, and the one that saves it. What crosses is
+// said in `replies`.
 use replies::CountReply;
 use replies::RECORD;
 use replies::Reply;

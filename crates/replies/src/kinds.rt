@@ -9,7 +9,7 @@ pub enum Asked {
     Unknown,
 }
 
-// Document 01's four tests, by number: 1 below k, 2 at least k, 3 equal to k, 4 not equal to k.
+// The four tests, by number: 1 below k, 2 at least k, 3 equal to k, 4 not equal to k.
 pub fn test_of_kind(kind: u32, k: u32) -> Asked
     ensures { λ r. ⌜ ofAsked r ≡ testIn kind k ⌝ }
 {

@@ -3,7 +3,7 @@ use queue::Refusal;
 ghost use mathlib.Core.Path.{_≡_};
 ghost use Rattle.queue.specs.Answers.{numberOf};
 
-// Document 01's number of a refusal.
+// The number of a refusal.
 pub fn number_of(refusal: Refusal) -> u16
     ensures { λ r. ⌜ r ≡ numberOf refusal ⌝ }
 {
