@@ -140,7 +140,8 @@ fn play_lines(
             Progress::Broken => return break_off(out, now.at, number),
             Progress::End => return leaves(now.at, Status::Well),
             Progress::ReadFailed => return leaves(now.at, Status::ReadFailed),
-            Progress::WriteFailed => return leaves(now.at, Status::WriteFailed),
+            // It was said: nothing more is to be written.
+            Progress::WriteFailed => return leaves(usize::MAX, Status::WriteFailed),
         }
     }
     leaves(now.at, Status::Well)
