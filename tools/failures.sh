@@ -4,9 +4,8 @@
 # Late, interrupted and failing calls need a C compiler (cc); what can't be tried here is named as left out.
 set -u
 here=$(cd "$(dirname "$0")/.." && pwd -P)
-name=replay
 . "$here/tools/program.sh"
-build
+for name in trial replay_many replay; do build; done
 work=$(mktemp -d)
 trap 'rm -rf "$work"' EXIT
 passed=0
