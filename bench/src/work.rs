@@ -161,7 +161,12 @@ impl<Q: Queue> State<Q> {
                 black_box(q.pop_back());
             }),
             Work::GetAll => times.for_each(|_| {
-                black_box(sum_by_position(black_box(&*q), n));
+                let q = black_box(&*q);
+                let mut sum = 0u32;
+                for i in 0..n {
+                    sum = sum.wrapping_add(q.get(i).unwrap_or(0));
+                }
+                black_box(sum);
             }),
             Work::Sum => times.for_each(|_| {
                 black_box(black_box(&*q).sum());
@@ -244,13 +249,6 @@ impl<Q: Queue> State<Q> {
             }),
         }
     }
-}
-
-/// The sum of the first n elements, each by its position. A function of its own, so that its loop has the registers
-/// that it needs, whatever the loops beside it are.
-#[inline(never)]
-fn sum_by_position<Q: Queue>(q: &Q, n: usize) -> u32 {
-    (0..n).fold(0, |sum, i| sum.wrapping_add(q.get(i).unwrap_or(0)))
 }
 
 fn insert_remove<Q: Queue>(q: &mut Q, i: usize, v: u32) {
