@@ -8,8 +8,7 @@ use core::ops::RangeBounds;
 #[inline]
 fn found(reply: raw::FoundReply) -> Option<u32> {
     debug_assert_eq!(reply.refused, 0);
-    // both at once, which is one comparison of the word that they share
-    matches!((reply.refused, reply.found), (0, 1)).then_some(reply.number)
+    (reply.found == 1).then_some(reply.number)
 }
 
 /// The two runs as parts of the slots.
