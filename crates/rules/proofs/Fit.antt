@@ -1,6 +1,7 @@
 -- What every queue that a sequence of calls leaves is, and what stands in it. Assumes nothing.
+use mathlib.Core.Bool.{Bool}
 use mathlib.Core.List.{List}
-use mathlib.Core.Path.{_≡_}
+use mathlib.Core.Path.{_≡_, refl}
 use Prim.Native.Nat.{ℕ, _≤_}
 use native.Mathlib.Omega.{arith}
 use lib.ListN.{length}
@@ -10,8 +11,8 @@ use Rattle.rules.proofs.Lawful.{Lawful}
 use Rattle.rules.proofs.Refusals.{Good, record-true, change-ok}
 use Rattle.rules.specs.Drains.{Drain, during, asOpened, closeDrain}
 use Rattle.rules.specs.Outcome.{State, shut, draining, refusal, recAfter}
-use Rattle.rules.specs.Records.{Rec, held, stepped}
-use Rattle.rules.specs.Refusals.{mostSlots}
+use Rattle.rules.specs.Records.{Rec, held, stepped, withMark}
+use Rattle.rules.specs.Refusals.{mostSlots, goodRec}
 use Rattle.rules.specs.Rule.{Rule, after}
 use Rattle.rules.specs.Sequences.{stands}
 use Rattle.rules.specs.Slots.{lay}
@@ -39,6 +40,11 @@ pub stands-draining : (b : List ℕ) (d : Drain) → GoodDrain (length b) d
 unfolding stands whether
 stands-draining b d g = rw (drain-true (length b) d g)
 
+-- the mark does not show in what stands
+pub stands-mark : (b : List ℕ) (m : Bool) (r : Rec) → stands b (shut (withMark m r)) ≡ stands b (shut r)
+unfolding stands goodRec held withMark
+stands-mark b m r = refl
+
 -- ---- what an accepted call leaves: its record is good, and the list that the rule gives is as long as that says
 
 pub record Leaves (b : List ℕ) (r : Rec) (R : Rule) : Type 0 where
@@ -50,20 +56,25 @@ pub left-held : (b : List ℕ) (r : Rec) (R : Rule) → Leaves b r R
     → held (lay b (recAfter b r R .head) (after R (held b r))) (recAfter b r R) ≡ after R (held b r)
 left-held b r R L = laid b (recAfter b r R) (after R (held b r)) (L .good) (L .long)
 
--- a call by a lawful rule
-pub op-leaves : (b : List ℕ) (r : Rec) (R : Rule) → Lawful R → refusal (length b) r R ≡ 0 → Leaves b r R
-unfolding refusal recAfter stepped
-op-leaves b r R L e =
-    let q = change-ok (length b) r _ e in
+-- what a lawful rule leaves of a good record, where the call itself asks nothing
+pub rule-leaves : (b : List ℕ) (r : Rec) (R : Rule) → Lawful R → Good (length b) r → R .own (length b) (r .len) ≡ 0
+    → Leaves b r R
+unfolding recAfter stepped
+rule-leaves b r R L g e =
     let n = length-held b r in
-    let long : length (held b r) ≤ length b = rw n (q .0 .fits) in
-    let own : R .own (length b) (length (held b r)) ≡ 0 = rw n (q .1) in
+    let long : length (held b r) ≤ length b = rw n (g .fits) in
+    let own : R .own (length b) (length (held b r)) ≡ 0 = rw n e in
     record {
-      good = stepped-good (length b) r _ _ (q .0)
-          (rw n at (L .good (length b) (r .head) (held b r) (q .0 .placed) long own))
+      good = stepped-good (length b) r _ _ g
+          (rw n at (L .good (length b) (r .head) (held b r) (g .placed) long own))
           (rw n at (L .fits (length b) (held b r) long own));
       long = rw n at (L .long (length b) (held b r) own);
     }
+
+-- a call by a lawful rule
+pub op-leaves : (b : List ℕ) (r : Rec) (R : Rule) → Lawful R → refusal (length b) r R ≡ 0 → Leaves b r R
+unfolding refusal
+op-leaves b r R L e = let q = change-ok (length b) r _ e in rule-leaves b r R L (q .0) (q .1)
 
 -- the closing of a drain
 pub close-leaves : (b : List ℕ) (d : Drain) → GoodDrain (length b) d → Leaves b (asOpened d) (closeDrain d)

@@ -3,15 +3,17 @@ use mathlib.Core.List.{List, []}
 use mathlib.Core.Logic.{_≢_}
 use mathlib.Core.Option.{Option, some, none}
 use mathlib.Core.Path.{_≡_, refl}
-use Prim.Native.Nat.{ℕ, _+_}
+use Prim.Native.Nat.{ℕ, _+_, min}
 use native.Mathlib.Omega.{arith}
 use lib.ListN.{length}
 use Rattle.rules.proofs.Count.{tally-append, tally-nil, tally-split}
-use Rattle.rules.proofs.Fit.{Fit, fit-shut, stands-shut}
+use Rattle.rules.proofs.Fit.{Fit, fit-shut, shut-good, stands-shut, stands-mark}
 use Rattle.rules.proofs.Keeps.{Keeps, keeps-change, left-slots, left-fit, left-stands, made-fit, made-stands, keeps-drained}
+use Rattle.rules.proofs.Held.{mark-good}
 use Rattle.rules.proofs.Made.{map-brought}
 use Rattle.rules.proofs.Pairs.{append-leaves, split-leaves}
 use Rattle.rules.proofs.Refusals.{Good}
+use Rattle.rules.proofs.Regions.{move-leaves, portion-leaves}
 use Rattle.rules.proofs.Slots.{length-lay}
 use Rattle.rules.proofs.Taken.{by-taken}
 use Rattle.rules.proofs.Choices.{unless-stop, by-either}
@@ -24,7 +26,8 @@ use Rattle.rules.specs.Makes.{madeWith}
 use Rattle.rules.specs.Outcome.{State, Outcome, shut, draining}
 use Rattle.rules.specs.Pairs.{onAppending, appended, crossing, doAppend, onSplitting, splitted, doSplit}
 use Rattle.rules.specs.Records.{Rec, held}
-use Rattle.rules.specs.Sequences.{Queue, CallStep, stands, stillStep, lookStep, queueOf, oneStep, QueueCall, queueStep, changing, asking, madeOr, bothStep, PairCall, pairStep, appending, splitting, comparing, Call, firstStep, takenStep, Pair, step, sideA, facing, sideB, Turn, Side}
+use Rattle.rules.specs.Regions.{onMoving, movedWhole, doMove, onPortion, passOn, ported, doPortion}
+use Rattle.rules.specs.Sequences.{Queue, CallStep, stands, stillStep, lookStep, queueOf, oneStep, QueueCall, queueStep, changing, asking, madeOr, bothStep, PairCall, pairStep, appending, splitting, moving, porting, comparing, Call, firstStep, takenStep, Pair, step, sideA, facing, sideB, Turn, Side}
 use Rattle.rules.specs.Choices.{unless}
 
 pub record Keeps2 (p q : Queue) (s : CallStep) : Type 0 where
@@ -142,12 +145,68 @@ module _ (b : List ℕ) (r : Rec) (g : Good (length b) r) (b′ : List ℕ) (r�
       (split-done at)
       (λ ne. refused-keeps _ none _ ne (made-none (shut r′)))
 
+  move-done : onMoving (length b) r (length b′) ≡ 0
+      → Keeps2 (queueOf b (shut r)) (queueOf b′ (shut r′))
+      (bothStep (shut r′) (movedWhole b r b′) (stands b′ (shut r′)))
+  unfolding bothStep movedWhole crossing madeWith madeOr unless clear
+  move-done z =
+      let o = move-leaves b r (length b′) z in
+      record {
+        slots-a = left-slots b r _;
+        slots-b = length-lay b′ _ _;
+        fit-a = left-fit b r _ (o .0);
+        fit-b = made-fit b′ _ (o .1);
+        balance = λ x. rw (stands-shut b r g, left-stands b r _ (o .0), made-stands b′ _ (o .1))
+            (omega (arith, tally-nil x));
+      }
+
+  keeps-move : Keeps2 (queueOf b (shut r)) (queueOf b′ (shut r′))
+      (bothStep (shut r′) (doMove b r b′) (stands b′ (shut r′)))
+  unfolding doMove
+  keeps-move =
+      by-either (onMoving (length b) r (length b′))
+      (λ m. Keeps2 (queueOf b (shut r)) (queueOf b′ (shut r′)) (bothStep (shut r′) m (stands b′ (shut r′)))) move-done
+      (λ ne. refused-keeps _ none _ ne (made-none (shut r′)))
+
+  portion-done : (n : ℕ) → onPortion (length b) r (length b′) r′ n ≡ 0
+      → Keeps2 (queueOf b (shut r)) (queueOf b′ (shut r′)) (bothStep (shut r′) (ported b r b′ r′ n) [])
+  unfolding bothStep ported crossing madeOr unless passOn extendWith
+  portion-done n z =
+      let o = portion-leaves b r b′ r′ n z in
+      record {
+        slots-a = left-slots b r _;
+        slots-b = left-slots b′ r′ _;
+        fit-a = left-fit b r _ (o .0);
+        fit-b = fit-shut (mark-good _ _ _ (shut-good (left-fit b′ r′ _ (o .1))));
+        balance = λ x.
+            rw (
+              stands-shut b r g,
+              stands-shut b′ r′ g′,
+              left-stands b r _ (o .0),
+              stands-mark,
+              left-stands b′ r′ _ (o .1),
+              map-brought,
+              tally-append,
+            )
+            (omega (arith, tally-nil x, tally-split x (min n (r .len)) (held b r)));
+      }
+
+  keeps-portion : (n : ℕ)
+      → Keeps2 (queueOf b (shut r)) (queueOf b′ (shut r′)) (bothStep (shut r′) (doPortion b r b′ r′ n) [])
+  unfolding doPortion
+  keeps-portion n =
+      by-either (onPortion (length b) r (length b′) r′ n)
+      (λ m. Keeps2 (queueOf b (shut r)) (queueOf b′ (shut r′)) (bothStep (shut r′) m [])) (portion-done n)
+      (λ ne. refused-keeps _ (some r′) [] ne (made-some (shut r′) r′))
+
   -- each call on both
   keeps-pair : (k : PairCall)
       → Keeps2 (queueOf b (shut r)) (queueOf b′ (shut r′)) (pairStep (queueOf b (shut r)) (queueOf b′ (shut r′)) r r′ k)
   unfolding pairStep
   keeps-pair appending = keeps-append
   keeps-pair (splitting at) = keeps-split at
+  keeps-pair moving = keeps-move
+  keeps-pair (porting n) = keeps-portion n
   keeps-pair (comparing a) = keeps-look _ _ _ (fit-shut g) (fit-shut g′)
 
 -- each call on the first queue, of its drain, and on both

@@ -8,7 +8,7 @@ use native.Mathlib.Omega.{arith}
 use lib.ListN.{length, drop, drop-of-length-le, take, length-drop}
 use Rattle.rules.proofs.Fit.{Fit, fit-shut}
 use Rattle.rules.proofs.Held.{length-held}
-use Rattle.rules.proofs.Marks.{strays-crossed, length-marks, origin-at, length-places, places-add, strays-append, marks-none, strays-none, marks-drop}
+use Rattle.rules.proofs.Traces.{strays-crossed, length-traces, origin-at, length-places, places-add, strays-append, traces-none, strays-none, traces-drop}
 use Rattle.rules.proofs.Moved.{same-moved, take-moved}
 use Rattle.rules.proofs.MovedAll.{stands-still, change-counted, drain-counted}
 use Rattle.rules.proofs.Pairs.{append-ok, split-ok}
@@ -21,7 +21,7 @@ use Rattle.rules.specs.Asks.{Sight}
 use Rattle.rules.specs.Ends.{clear, truncate}
 use Rattle.rules.specs.Joins.{extendWith}
 use Rattle.rules.specs.Makes.{madeWith}
-use Rattle.rules.specs.Moves.{Marked, elsewhere, slotOf, strays, marksFrom, Marks, placesOf, marksBoth, standing, marksOf, queueAfter, placesFrom, pairAfter, bothAfter, takenAfter}
+use Rattle.rules.specs.Moves.{Traced, elsewhere, slotOf, strays, tracesFrom, Traces, placesOf, tracesBoth, standing, tracesOf, queueAfter, placesFrom, pairAfter, bothAfter, takenAfter}
 use Rattle.rules.specs.Outcome.{shut, accepted, recAfter}
 use Rattle.rules.specs.Pairs.{onAppending, appended, crossing, onSplitting, splitted, PairOutcome, doAppend, doSplit}
 use Rattle.rules.specs.Places.{place}
@@ -32,12 +32,12 @@ use Rattle.rules.specs.Choices.{unless}
 -- every element that stood in the other queue has moved
 module _ (d d′ : Side) (cross : (s p : ℕ) → elsewhere d (slotOf d′ s) p ≡ 1) where
   crossed : (c : ℕ) (b : List ℕ) (h n : ℕ) (ps : List ℕ) → h ≤ c - 1 → n ≤ c → length ps ≡ n
-      → strays d (marksFrom d′ c b h n) ps ≡ n
+      → strays d (tracesFrom d′ c b h n) ps ≡ n
   crossed c b h n ps good fits e =
-      strays-crossed d (marksFrom d′ c b h n) ps (length-marks d′ c b h n ∙ sym e)
-      (λ i x lt p. let lt′ : i < n = omega (arith, length-marks d′ c b h n) in rw
+      strays-crossed d (tracesFrom d′ c b h n) ps (length-traces d′ c b h n ∙ sym e)
+      (λ i x lt p. let lt′ : i < n = omega (arith, length-traces d′ c b h n) in rw
       (origin-at d′ c b h n i x (omega arith) fits lt′) (cross _ p))
-      ∙ length-marks d′ c b h n
+      ∙ length-traces d′ c b h n
 
 b-in-a : (s p : ℕ) → elsewhere sideA (slotOf sideB s) p ≡ 1
 unfolding elsewhere
@@ -48,25 +48,25 @@ unfolding elsewhere
 a-in-b s p = refl
 
 -- what a step's moved count should be, where m stands after it
-abbrev pub CountedBoth : Marks → CallStep → Type 0
+abbrev pub CountedBoth : Traces → CallStep → Type 0
 CountedBoth m o =
     o .moved ≡ strays sideA (m .ours) (placesOf (length (o .queues .a .slots)) (o .queues .a .state))
     + strays sideB (m .theirs) (placesOf (length (o .queues .b .slots)) (o .queues .b .state))
 
--- what stands in a queue before a call, marked
-abbrev before : Side → Queue → List Marked
-before d q = standing (q .state) (marksOf d (q .slots) (q .state))
+-- what stands in a queue before a call, traced
+abbrev before : Side → Queue → List Traced
+before d q = standing (q .state) (tracesOf d (q .slots) (q .state))
 
 -- passed over, or a look: none moves
 still-counted : (p q : Queue) (n : ℕ) (s : Option Sight) → Fit (p .slots) (p .state) → Fit (q .slots) (q .state)
-    → CountedBoth (marksBoth (before sideA p) (before sideB q)) (stillStep p q n s)
+    → CountedBoth (tracesBoth (before sideA p) (before sideB q)) (stillStep p q n s)
 unfolding stillStep
 still-counted p q n s f f′ = omega (arith, stands-still sideA (p .slots) f, stands-still sideB (q .slots) f′)
 
 -- each call on a queue
 queue-counted : (b : List ℕ) (r : Rec) (q : Queue) → Good (length b) r → Fit (q .slots) (q .state) → (k : QueueCall)
     → queueStep (queueOf b (shut r)) q r k .refused ≡ 0
-    → CountedBoth (marksBoth (queueAfter k (marksOf sideA b (shut r))) (before sideB q))
+    → CountedBoth (tracesBoth (queueAfter k (tracesOf sideA b (shut r))) (before sideB q))
     (queueStep (queueOf b (shut r)) q r k)
 unfolding queueStep queueAfter oneStep lookStep standing
 queue-counted b r q g f′ (changing k) z =
@@ -76,15 +76,15 @@ queue-counted b r q g f′ (asking a) z = still-counted (queueOf b (shut r)) q _
 -- ours stay, and theirs come behind
 joined : (b : List ℕ) (h n : ℕ) (b′ : List ℕ) (h′ n′ : ℕ) → h ≤ length b - 1 → n + n′ ≤ length b → h′ ≤ length b′ - 1
     → n′ ≤ length b′
-    → n′ ≡ strays sideA (marksFrom sideA (length b) b h n ++ marksFrom sideB (length b′) b′ h′ n′)
+    → n′ ≡ strays sideA (tracesFrom sideA (length b) b h n ++ tracesFrom sideB (length b′) b′ h′ n′)
     (placesFrom (length b) h (n + n′))
 joined b h n b′ h′ n′ good fits good′ fits′ =
     let c = length b in
-    let w = marksFrom sideA c b h n in
-    let w′ = marksFrom sideB (length b′) b′ h′ n′ in
+    let w = tracesFrom sideA c b h n in
+    let w′ = tracesFrom sideB (length b′) b′ h′ n′ in
     ⊎-elim
     (λ lt. let in-ring : h < c = omega arith in
-    let front : length w ≡ length (placesFrom c h n) = length-marks sideA c b h n ∙ sym (length-places c h n) in
+    let front : length w ≡ length (placesFrom c h n) = length-traces sideA c b h n ∙ sym (length-places c h n) in
     rw (places-add c h n n′ in-ring (omega arith)) (omega (
       arith,
       strays-append sideA w w′ (placesFrom c h n) (placesFrom c (place c h n) n′) front,
@@ -94,22 +94,22 @@ joined b h n b′ h′ n′ good fits good′ fits′ =
     )))
     (λ ge. let z : n ≡ 0 = omega arith in
     let z′ : n′ ≡ 0 = omega arith in
-    rw (z, z′, marks-none, marks-none, strays-none))
+    rw (z, z′, traces-none, traces-none, strays-none))
     (lt-or-ge 0 (n + n′))
 
 -- the later ones of ours have gone to the other queue
 parted : (b : List ℕ) (h n i c′ : ℕ) → h ≤ length b - 1 → n ≤ length b → i ≤ n
-    → n - i ≡ strays sideB (drop i (marksFrom sideA (length b) b h n)) (placesFrom c′ 0 (n - i))
+    → n - i ≡ strays sideB (drop i (tracesFrom sideA (length b) b h n)) (placesFrom c′ 0 (n - i))
 parted b h n i c′ good fits le =
     let c = length b in
     ⊎-elim
-    (λ lt. rw (marks-drop sideA c b h (omega arith) i n le fits)
+    (λ lt. rw (traces-drop sideA c b h (omega arith) i n le fits)
     (sym (crossed sideB sideA a-in-b c b (place c h i) (n - i) (placesFrom c′ 0 (n - i))
     (place-good c h good i (omega arith)) (omega arith) (length-places c′ 0 (n - i)))))
     (λ ge. let z : n - i ≡ 0 = omega arith in
     rw (
       z,
-      drop-of-length-le (marksFrom sideA c b h n) {i = i} (omega (arith, length-marks sideA c b h n)),
+      drop-of-length-le (tracesFrom sideA c b h n) {i = i} (omega (arith, length-traces sideA c b h n)),
       strays-none,
     ))
     (lt-or-ge i n)
@@ -125,9 +125,9 @@ step-refused b r b′ r′ n x gone = refl
 
 module _ (b : List ℕ) (r : Rec) (b′ : List ℕ) (r′ : Rec) where
   append-counted : onAppending (length b) r (length b′) r′ ≡ 0
-      → CountedBoth (marksBoth (marksOf sideA b (shut r) ++ marksOf sideB b′ (shut r′)) [])
+      → CountedBoth (tracesBoth (tracesOf sideA b (shut r) ++ tracesOf sideB b′ (shut r′)) [])
       (bothStep (shut r′) (appended b r b′ r′) [])
-  unfolding bothStep appended crossing accepted recAfter extendWith clear stepped madeOr marksOf placesOf
+  unfolding bothStep appended crossing accepted recAfter extendWith clear stepped madeOr tracesOf placesOf
   append-counted z =
       let o = append-ok (length b) r (length b′) r′ z in
       rw (length-lay, length-held, strays-none)
@@ -138,9 +138,9 @@ module _ (b : List ℕ) (r : Rec) (b′ : List ℕ) (r′ : Rec) where
       ))
 
   split-counted : (i : ℕ) → onSplitting (length b) r (length b′) i ≡ 0
-      → CountedBoth (marksBoth (take i (marksOf sideA b (shut r))) (drop i (marksOf sideA b (shut r))))
+      → CountedBoth (tracesBoth (take i (tracesOf sideA b (shut r))) (drop i (tracesOf sideA b (shut r))))
       (bothStep (shut r′) (splitted b r b′ i) (stands b′ (shut r′)))
-  unfolding bothStep splitted crossing accepted recAfter truncate madeWith stepped newRec madeOr marksOf placesOf
+  unfolding bothStep splitted crossing accepted recAfter truncate madeWith stepped newRec madeOr tracesOf placesOf
   split-counted i z =
       let o = split-ok (length b) r (length b′) i z in
       let g = o .0 in
@@ -152,7 +152,7 @@ module _ (b : List ℕ) (r : Rec) (b′ : List ℕ) (r′ : Rec) where
       ))
 
   -- an accepted call, of the two outcomes that it may have
-  both-counted : (w : Marks) (n : ℕ) (x : Option Rec) (m : PairOutcome) (gone : List ℕ)
+  both-counted : (w : Traces) (n : ℕ) (x : Option Rec) (m : PairOutcome) (gone : List ℕ)
       → let no : PairOutcome = record {
         answer = record { refused = n; moved = 0; rec = r; other = x };
         slots = b;
@@ -167,7 +167,7 @@ module _ (b : List ℕ) (r : Rec) (b′ : List ℕ) (r′ : Rec) where
   -- each call on both
   pair-counted : Good (length b) r → Good (length b′) r′ → (k : PairCall)
       → pairStep (queueOf b (shut r)) (queueOf b′ (shut r′)) r r′ k .refused ≡ 0
-      → CountedBoth (pairAfter k (marksOf sideA b (shut r)) (marksOf sideB b′ (shut r′)))
+      → CountedBoth (pairAfter k (tracesOf sideA b (shut r)) (tracesOf sideB b′ (shut r′)))
       (pairStep (queueOf b (shut r)) (queueOf b′ (shut r′)) r r′ k)
   unfolding pairStep pairAfter doAppend doSplit lookStep standing
   pair-counted g g′ appending z =
@@ -181,14 +181,14 @@ module _ (b : List ℕ) (r : Rec) (b′ : List ℕ) (r′ : Rec) where
 -- each call on the first queue, of its drain, and on both
 pub first-counted : (p q : Queue) → Fit (p .slots) (p .state) → Fit (q .slots) (q .state) → (k : Call)
     → firstStep p q k .refused ≡ 0
-    → let m = bothAfter (p .state) (q .state) k (marksOf sideA (p .slots) (p .state))
-    (marksOf sideB (q .slots) (q .state)) in
+    → let m = bothAfter (p .state) (q .state) k (tracesOf sideA (p .slots) (p .state))
+    (tracesOf sideB (q .slots) (q .state)) in
     CountedBoth m (firstStep p q k)
 unfolding firstStep takenStep bothAfter takenAfter oneStep
 first-counted p q f f′ k =
     by-taken f f′ k
     (λ h h′ t. let o = takenStep (queueOf (p .slots) h) (queueOf (q .slots) h′) t in
-    o .refused ≡ 0 → CountedBoth (takenAfter h h′ (marksOf sideA (p .slots) h) (marksOf sideB (q .slots) h′) t) o)
+    o .refused ≡ 0 → CountedBoth (takenAfter h h′ (tracesOf sideA (p .slots) h) (tracesOf sideB (q .slots) h′) t) o)
     (λ z. still-counted p q 0 none f f′)
     (λ r g c z. queue-counted (p .slots) r q g f′ c z)
     (λ d few g c z. omega (arith, drain-counted sideA (p .slots) d few g c z, stands-still sideB (q .slots) f′))

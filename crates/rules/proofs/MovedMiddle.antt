@@ -6,14 +6,14 @@ use native.Mathlib.Omega.{arith}
 use lib.Dec.{leb, leb→le, ltb, ltb→lt, nltb→le}
 use lib.ListN.{length, replicate, length-replicate, take, drop, drop-of-length-le}
 use lib.Seq.{take-all}
-use Rattle.rules.proofs.Marks.{length-marks, stretch-stays}
+use Rattle.rules.proofs.Traces.{length-traces, stretch-stays}
 use Rattle.rules.proofs.Moved.{MovedTrue, behind-moved, cut-behind, front-moved, take-most, cut-first, cut-moved, goes, head-goes, same-moved}
 use Rattle.rules.proofs.Places.{stepBack-good, place-zero, step-back-on, place-place, place-good}
 use Rattle.rules.proofs.Refusals.{change-ok, room-ok}
 use Rattle.rules.proofs.Choices.{passed, by-test₂, by-test₃}
 use Rattle.rules.specs.Joins.{extendWith, prepend, extendFront, resize}
 use Rattle.rules.specs.Middle.{insertAt, removeAt}
-use Rattle.rules.specs.Moves.{marked, Marked, marksFrom, strays, placesFrom}
+use Rattle.rules.specs.Moves.{traced, Traced, tracesFrom, strays, placesFrom}
 use Rattle.rules.specs.Outcome.{refusal, recAfter}
 use Rattle.rules.specs.Places.{stepBack, place}
 use Rattle.rules.specs.Records.{stepped}
@@ -25,7 +25,7 @@ unfolding refusal recAfter stepped extendWith
 extend-moved vs d b r e =
     let q = change-ok (length b) r _ e in
     behind-moved d b (r .head) (r .len) (q .0 .placed) (q .0 .fits) _ (r .len + length vs) (r .len) vs
-    (cut-behind _ (r .len) (length-marks d (length b) b (r .head) (r .len)) (map (marked .brought) vs)) (omega arith)
+    (cut-behind _ (r .len) (length-traces d (length b) b (r .head) (r .len)) (map (traced .brought) vs)) (omega arith)
     refl (room-ok (length b) (r .len + length vs) (q .1))
 
 pub prepend-moved : (vs : List ℕ) → MovedTrue (prepend vs)
@@ -42,19 +42,19 @@ pub extendFront-moved : (vs : List ℕ) → MovedTrue (extendFront vs)
 unfolding extendFront
 extendFront-moved vs = prepend-moved (reverse vs)
 
-map-replicate : (n v : ℕ) → replicate n (marked .brought v) ≡ map (marked .brought) (replicate n v)
+map-replicate : (n v : ℕ) → replicate n (traced .brought v) ≡ map (traced .brought) (replicate n v)
 map-replicate zero v = refl
-map-replicate (suc n) v = ap (λ (l : List Marked). marked .brought v ∷ l) (map-replicate n v)
+map-replicate (suc n) v = ap (λ (l : List Traced). traced .brought v ∷ l) (map-replicate n v)
 
 pub resize-moved : (m v : ℕ) → MovedTrue (resize m v)
 unfolding refusal recAfter stepped resize
 resize-moved m v d b r e =
     let q = change-ok (length b) r _ e in
-    let w = marksFrom d (length b) b (r .head) (r .len) in
-    let long = length-marks d (length b) b (r .head) (r .len) in
+    let w = tracesFrom d (length b) b (r .head) (r .len) in
+    let long = length-traces d (length b) b (r .head) (r .len) in
     rw (long, map-replicate, take-most w (r .len) long m)
     (behind-moved d b (r .head) (r .len) (q .0 .placed) (q .0 .fits) _ m (min m (r .len)) (replicate (m - r .len) v)
-    (cut-first w (r .len) long (min m (r .len)) (map (marked .brought) (replicate (m - r .len) v))) (omega arith)
+    (cut-first w (r .len) long (min m (r .len)) (map (traced .brought) (replicate (m - r .len) v))) (omega arith)
     (rw length-replicate (omega arith)) (room-ok (length b) m (q .1)))
 
 -- ---- the shorter side moves
@@ -71,7 +71,7 @@ insert-moved i v d b r e =
     let h = r .head in
     let n = r .len in
     by-test₂ (ltb (n - i) i) (λ m h′. m
-    ≡ strays d (take i (marksFrom d c b h n) ++ (marked .brought v ∷ drop i (marksFrom d c b h n)))
+    ≡ strays d (take i (tracesFrom d c b h n) ++ (traced .brought v ∷ drop i (tracesFrom d c b h n)))
     (placesFrom c h′ (n + 1)))
     (λ t. cut-moved d b h n (g .placed) (g .fits) _ h (n + 1) (n - i) i i (v ∷ []) refl (g .placed) (omega arith) le
     (omega arith) room
@@ -100,7 +100,7 @@ remove-moved i d b r e =
     let c = length b in
     let h = r .head in
     let n = r .len in
-    let w = marksFrom d c b h n in
+    let w = tracesFrom d c b h n in
     by-test₃ (ltb i n) (λ m h′ n′. m ≡ strays d (take i w ++ drop (suc i) w) (placesFrom c h′ n′))
     (λ s. let lt = ltb→lt i n s in
     by-test₂ (ltb (n - i - 1) i) (λ m h′. m ≡ strays d (take i w ++ drop (suc i) w) (placesFrom c h′ (n - 1)))
@@ -124,8 +124,8 @@ remove-moved i d b r e =
     )) (λ z. omega arith)))
     (λ s. let ge = nltb→le i n s in
     rw (
-      take-all i w (omega (arith, length-marks d c b h n)),
-      drop-of-length-le w {i = suc i} (omega (arith, length-marks d c b h n)),
+      take-all i w (omega (arith, length-traces d c b h n)),
+      drop-of-length-le w {i = suc i} (omega (arith, length-traces d c b h n)),
       append-nil,
     )
     (same-moved d b h n (g .placed) (g .fits)))

@@ -8,13 +8,13 @@ use borrow.Author.Tests.{le-ltb}
 use lib.Dec.{eqb, eqb→eq, ltb, ltb→lt, nltb→le}
 use lib.ListN.{take, length, drop}
 use Rattle.rules.proofs.Drains.{GoodDrain}
-use Rattle.rules.proofs.Marks.{stretch-none, stretch-stays}
+use Rattle.rules.proofs.Traces.{stretch-none, stretch-stays}
 use Rattle.rules.proofs.Moved.{cut-moved, goes, head-goes, MovedTrue, MovedAt}
 use Rattle.rules.proofs.Places.{place-good, place-place}
 use Rattle.rules.proofs.Refusals.{change-ok, range-ok, room-ok}
 use Rattle.rules.proofs.Choices.{cases, by-test, is-true, is-false, by-test₂, neqb→ne}
 use Rattle.rules.specs.Drains.{Drain, closedMoved, keptList, closedHead, closeDrain, asOpened}
-use Rattle.rules.specs.Moves.{strays, marksFrom, marked, placesFrom}
+use Rattle.rules.specs.Moves.{strays, tracesFrom, traced, placesFrom}
 use Rattle.rules.specs.Outcome.{refusal, recAfter}
 use Rattle.rules.specs.Places.{place}
 use Rattle.rules.specs.Records.{stepped}
@@ -25,8 +25,8 @@ use Rattle.rules.specs.Choices.{whether}
 -- the first s elements, then vs from outside, then those from position e on, laid from h′ on: m of them stand elsewhere
 abbrev pub Spliced : Side → List ℕ → ℕ → ℕ → ℕ → ℕ → List ℕ → ℕ → ℕ → Type 0
 Spliced d b h n s e vs m h′ =
-    m ≡ strays d (take s (marksFrom d (length b) b h n)
-    ++ (map (marked .brought) vs ++ drop e (marksFrom d (length b) b h n)))
+    m ≡ strays d (take s (tracesFrom d (length b) b h n)
+    ++ (map (traced .brought) vs ++ drop e (tracesFrom d (length b) b h n)))
     (placesFrom (length b) h′ (s + length vs + (n - e)))
 
 module _ (d : Side) (b : List ℕ) (h n : ℕ) (good : h ≤ length b - 1) (fits : n ≤ length b) where
@@ -124,7 +124,7 @@ close-moved s b d g =
     let n = d .start + d .drained + d .tail in
     let e = d .start + d .drained in
     let behind : d .start + 0 + (n - e) ≡ d .start + d .tail = omega arith in
-    subst (λ (k : ℕ). closedMoved d ≡ strays s (keptList (marksFrom s c b h n) d) (placesFrom c (closedHead c h d) k))
+    subst (λ (k : ℕ). closedMoved d ≡ strays s (keptList (tracesFrom s c b h n) d) (placesFrom c (closedHead c h d) k))
     behind (cases (eqb (d .start + d .tail) 0)
     (λ t. let y = eqb→eq (d .start + d .tail) 0 t in
     let least : whether (eqb (d .drained) 0) 0 (min (d .start) (d .tail)) ≡ 0 =

@@ -10,67 +10,67 @@ use lib.Dec.{eqb, ltb, ltb→lt, eqb→eq}
 use lib.ListN.{length, getD, set, length-set, drop, take}
 use lib.Seq.{drop-set-add, take-set-lt, set-getD, take-set-le}
 use Rattle.rules.proofs.Count.{set-copy}
-use Rattle.rules.proofs.Marks.{origin-at, own-slot, length-marks, length-places, place-at, strays-set, marks-drop, marks-take}
+use Rattle.rules.proofs.Traces.{origin-at, own-slot, length-traces, length-places, place-at, strays-set, traces-drop, traces-take}
 use Rattle.rules.proofs.Moved.{same-moved, MovedTrue, drop-moved, take-moved}
 use Rattle.rules.proofs.Places.{places-apart, place-low, place-place}
 use Rattle.rules.proofs.Refusals.{change-ok}
 use Rattle.rules.proofs.Choices.{passed, by-test, neqb→ne, by-test₄, by-test₃}
 use Rattle.rules.specs.Count.{one-if}
 use Rattle.rules.specs.Ends.{exchange, swapRemoveFront, swapRemoveBack}
-use Rattle.rules.specs.Moves.{Marked, marked, elsewhere, marksFrom, strays, placesFrom}
+use Rattle.rules.specs.Moves.{Traced, traced, elsewhere, tracesFrom, strays, placesFrom}
 use Rattle.rules.specs.Outcome.{refusal, recAfter}
 use Rattle.rules.specs.Places.{place}
 use Rattle.rules.specs.Records.{stepped}
 use Rattle.rules.specs.Sequences.{Side}
 
-abbrev zeroth : Marked
-zeroth = marked .brought 0
+abbrev zeroth : Traced
+zeroth = traced .brought 0
 
 module _ (d : Side) (b : List ℕ) (h n : ℕ) (in-ring : h < length b) (fits : n ≤ length b) where
   -- the element of position j, in the slot of position i
-  put-at : (j i : ℕ) → j < n → elsewhere d (getD (marksFrom d (length b) b h n) j zeroth .origin) (place (length b) h i)
+  put-at : (j i : ℕ) → j < n → elsewhere d (getD (tracesFrom d (length b) b h n) j zeroth .origin) (place (length b) h i)
       ≡ one-if (not (eqb (place (length b) h j) (place (length b) h i)))
   put-at j i lt = rw (origin-at d (length b) b h n j zeroth in-ring fits lt) (own-slot d _ _)
 
-  put-own : (i : ℕ) → i < n → elsewhere d (getD (marksFrom d (length b) b h n) i zeroth .origin) (place (length b) h i)
+  put-own : (i : ℕ) → i < n → elsewhere d (getD (tracesFrom d (length b) b h n) i zeroth .origin) (place (length b) h i)
       ≡ 0
   unfolding one-if
   put-own i lt = put-at i i lt ∙ rw (eq-eqb (place (length b) h i) (place (length b) h i) refl)
 
   put-other : (j i : ℕ) → j < n → i < n → j ≢ i
-      → elsewhere d (getD (marksFrom d (length b) b h n) j zeroth .origin) (place (length b) h i) ≡ 1
+      → elsewhere d (getD (tracesFrom d (length b) b h n) j zeroth .origin) (place (length b) h i) ≡ 1
   unfolding one-if
   put-other j i lt lt′ ne =
       put-at j i lt ∙ rw (ne-eqb (place (length b) h j) (place (length b) h i)
       (λ e. places-apart (length b) h in-ring j i (omega arith) (omega arith) ne e))
 
-  set-at : (i : ℕ) (x : Marked) → i < n
-      → strays d (set (marksFrom d (length b) b h n) i x) (placesFrom (length b) h n)
+  set-at : (i : ℕ) (x : Traced) → i < n
+      → strays d (set (tracesFrom d (length b) b h n) i x) (placesFrom (length b) h n)
       ≡ elsewhere d (x .origin) (place (length b) h i)
   set-at i x lt =
-      let long : length (marksFrom d (length b) b h n) ≡ length (placesFrom (length b) h n) =
-      length-marks d (length b) b h n ∙ sym (length-places (length b) h n) in
+      let long : length (tracesFrom d (length b) b h n) ≡ length (placesFrom (length b) h n) =
+      length-traces d (length b) b h n ∙ sym (length-places (length b) h n) in
       let at-i = place-at (length b) h n i in-ring fits lt in
       omega (
         arith,
-        rw at-i at (strays-set d (marksFrom d (length b) b h n) (placesFrom (length b) h n) i x zeroth
-            (rw length-marks lt) long),
+        rw at-i at (strays-set d (tracesFrom d (length b) b h n) (placesFrom (length b) h n) i x zeroth
+            (rw length-traces lt) long),
         put-own i lt,
         same-moved d b h n (omega arith) fits,
       )
 
   -- two elements are exchanged
   both-set : (i j : ℕ) → i < n → j < n
-      → strays d (set (set (marksFrom d (length b) b h n) i (getD (marksFrom d (length b) b h n) j zeroth)) j
-      (getD (marksFrom d (length b) b h n) i zeroth)) (placesFrom (length b) h n)
-      ≡ elsewhere d (getD (marksFrom d (length b) b h n) j zeroth .origin) (place (length b) h i)
-      + elsewhere d (getD (marksFrom d (length b) b h n) i zeroth .origin) (place (length b) h j)
+      → strays d (set (set (tracesFrom d (length b) b h n) i (getD (tracesFrom d (length b) b h n) j zeroth)) j
+      (getD (tracesFrom d (length b) b h n) i zeroth)) (placesFrom (length b) h n)
+      ≡ elsewhere d (getD (tracesFrom d (length b) b h n) j zeroth .origin) (place (length b) h i)
+      + elsewhere d (getD (tracesFrom d (length b) b h n) i zeroth .origin) (place (length b) h j)
   both-set i j lt lt′ =
-      let w = marksFrom d (length b) b h n in
+      let w = tracesFrom d (length b) b h n in
       let l = set w i (getD w j zeroth) in
       let long : length l ≡ length (placesFrom (length b) h n) =
-      rw length-set (length-marks d (length b) b h n ∙ sym (length-places (length b) h n)) in
-      let in-l : j < length l = rw (length-set, length-marks) lt′ in
+      rw length-set (length-traces d (length b) b h n ∙ sym (length-places (length b) h n)) in
+      let in-l : j < length l = rw (length-set, length-traces) lt′ in
       omega (
         arith,
         rw (set-copy w zeroth i j, place-at (length b) h n j in-ring fits lt′) at
@@ -89,7 +89,7 @@ exchange-moved i j d b r e =
     let lt′ = ltb→lt j (r .len) (o .0) in
     let g = q .0 in
     let in-ring : r .head < length b = omega arith in
-    let w = marksFrom d (length b) b (r .head) (r .len) in
+    let w = tracesFrom d (length b) b (r .head) (r .len) in
     by-test (eqb i j) (λ m. m ≡ strays d (set (set w i (getD w j zeroth)) j (getD w i zeroth))
     (placesFrom (length b) (r .head) (r .len)))
     (λ t. let same = eqb→eq i j t in
@@ -107,16 +107,16 @@ exchange-moved i j d b r e =
 
 module _ (d : Side) (b : List ℕ) (h n : ℕ) (in-ring : h < length b) (fits : n ≤ length b) where
   front-put : (i : ℕ) → 0 < i → i < n
-      → 1 ≡ strays d (drop 1 (set (marksFrom d (length b) b h n) i (getD (marksFrom d (length b) b h n) 0 zeroth)))
+      → 1 ≡ strays d (drop 1 (set (tracesFrom d (length b) b h n) i (getD (tracesFrom d (length b) b h n) 0 zeroth)))
       (placesFrom (length b) (place (length b) h 1) (n - 1))
   front-put i pos lt =
-      let w = marksFrom d (length b) b h n in
+      let w = tracesFrom d (length b) b h n in
       let c = length b in
       let h′ = place c h 1 in
       let in′ = place-low c h in-ring 1 (omega arith) in
-      let down : drop 1 (set w i (getD w 0 zeroth)) ≡ set (marksFrom d c b h′ (n - 1)) (i - 1) (getD w 0 zeroth) =
+      let down : drop 1 (set w i (getD w 0 zeroth)) ≡ set (tracesFrom d c b h′ (n - 1)) (i - 1) (getD w 0 zeroth) =
       ap (λ (k : ℕ). drop 1 (set w k (getD w 0 zeroth))) (omega arith) ∙ drop-set-add 1 w (i - 1) (getD w 0 zeroth)
-      ∙ ap (λ (l : List Marked). set l (i - 1) (getD w 0 zeroth)) (marks-drop d c b h in-ring 1 n (omega arith) fits) in
+      ∙ ap (λ (l : List Traced). set l (i - 1) (getD w 0 zeroth)) (traces-drop d c b h in-ring 1 n (omega arith) fits) in
       let there : place c h′ (i - 1) ≡ place c h i =
       place-place c h in-ring 1 (i - 1) (omega arith) ∙ ap (place c h) (omega arith) in
       rw down (omega (
@@ -126,15 +126,15 @@ module _ (d : Side) (b : List ℕ) (h n : ℕ) (in-ring : h < length b) (fits : 
       ))
 
   back-put : (i : ℕ) → i + 1 < n
-      → 1 ≡ strays d (take (n - 1) (set (marksFrom d (length b) b h n) i
-      (getD (marksFrom d (length b) b h n) (n - 1) zeroth))) (placesFrom (length b) h (n - 1))
+      → 1 ≡ strays d (take (n - 1) (set (tracesFrom d (length b) b h n) i
+      (getD (tracesFrom d (length b) b h n) (n - 1) zeroth))) (placesFrom (length b) h (n - 1))
   back-put i lt =
-      let w = marksFrom d (length b) b h n in
+      let w = tracesFrom d (length b) b h n in
       let c = length b in
       let x = getD w (n - 1) zeroth in
-      let down : take (n - 1) (set w i x) ≡ set (marksFrom d c b h (n - 1)) i x =
+      let down : take (n - 1) (set w i x) ≡ set (tracesFrom d c b h (n - 1)) i x =
       take-set-lt (n - 1) w i x (omega arith)
-      ∙ ap (λ (l : List Marked). set l i x) (marks-take d c b h in-ring (n - 1) n (omega arith) fits) in
+      ∙ ap (λ (l : List Traced). set l i x) (traces-take d c b h in-ring (n - 1) n (omega arith) fits) in
       rw down (omega (
         arith,
         set-at d b h (n - 1) in-ring (omega arith) i x (omega arith),
@@ -146,8 +146,8 @@ unfolding refusal recAfter stepped swapRemoveFront
 swapRemoveFront-moved i d b r e =
     let q = change-ok (length b) r _ e in
     let g = q .0 in
-    let w = marksFrom d (length b) b (r .head) (r .len) in
-    rw (length-marks d (length b) b (r .head) (r .len))
+    let w = tracesFrom d (length b) b (r .head) (r .len) in
+    rw (length-traces d (length b) b (r .head) (r .len))
     (by-test₄ (ltb i (r .len)) (λ m l h′ n′. m ≡ strays d l (placesFrom (length b) h′ n′))
     (λ t. let lt = ltb→lt i (r .len) t in
     by-test (eqb i 0) (λ m. m ≡ strays d (drop 1 (set w i (getD w 0 zeroth)))
@@ -162,8 +162,8 @@ unfolding refusal recAfter stepped swapRemoveBack
 swapRemoveBack-moved i d b r e =
     let q = change-ok (length b) r _ e in
     let g = q .0 in
-    let w = marksFrom d (length b) b (r .head) (r .len) in
-    rw (length-marks d (length b) b (r .head) (r .len))
+    let w = tracesFrom d (length b) b (r .head) (r .len) in
+    rw (length-traces d (length b) b (r .head) (r .len))
     (by-test₃ (ltb i (r .len)) (λ m l n′. m ≡ strays d l (placesFrom (length b) (r .head) n′))
     (λ t. let lt = ltb→lt i (r .len) t in
     by-test (eqb (i + 1) (r .len))

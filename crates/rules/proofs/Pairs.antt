@@ -1,21 +1,19 @@
 -- What the calls on two queues leave: good records, and the lists that the rules give. Assumes nothing.
 use mathlib.Core.List.{List}
-use mathlib.Core.Path.{_≡_, sym, ap, _∙_}
+use mathlib.Core.Path.{_≡_, refl}
 use Prim.Native.Nat.{ℕ, _+_, _≤_, _-_}
 use lib.Dec.{leb, leb→le}
 use lib.ListN.{length, drop, length-drop}
 use Rattle.rules.proofs.Ends.{clear-lawful, truncate-lawful}
-use Rattle.rules.proofs.Fit.{op-leaves, Leaves}
+use Rattle.rules.proofs.Fit.{rule-leaves, Leaves}
 use Rattle.rules.proofs.Held.{length-held}
 use Rattle.rules.proofs.Joins.{extend-lawful}
 use Rattle.rules.proofs.Refusals.{Good, change-ok, room-ok, slots-ok}
 use Rattle.rules.proofs.Choices.{passed}
 use Rattle.rules.specs.Ends.{clear, truncate}
 use Rattle.rules.specs.Joins.{extendWith}
-use Rattle.rules.specs.Outcome.{refusal}
 use Rattle.rules.specs.Pairs.{onAppending, onSplitting}
 use Rattle.rules.specs.Records.{Rec, held}
-use Rattle.rules.specs.Refusals.{room, onChange}
 
 -- ---- `append`
 
@@ -30,14 +28,12 @@ append-ok c r c′ r′ e =
 -- our side is left as by `extend`, the other's as by `clear`, and neither rule asks more
 pub append-leaves : (b : List ℕ) (r : Rec) (b′ : List ℕ) (r′ : Rec) → onAppending (length b) r (length b′) r′ ≡ 0
     → Leaves b r (extendWith (held b′ r′)) × Leaves b′ r′ clear
-unfolding onAppending refusal extendWith clear
+unfolding onAppending extendWith clear
 append-leaves b r b′ r′ e =
     let p = change-ok (length b) r _ e in
-    let q = change-ok (length b′) r′ _ (p .1) in
-    let own : room (length b) (r .len + length (held b′ r′)) ≡ 0 = rw length-held (q .1) in (
-      op-leaves b r (extendWith (held b′ r′)) (extend-lawful (held b′ r′))
-          (ap (onChange (length b) r) (own ∙ sym (p .1)) ∙ e),
-      op-leaves b′ r′ clear clear-lawful (ap (onChange (length b′) r′) (sym (q .1)) ∙ p .1),
+    let q = change-ok (length b′) r′ _ (p .1) in (
+      rule-leaves b r (extendWith (held b′ r′)) (extend-lawful (held b′ r′)) (p .0) (rw length-held (q .1)),
+      rule-leaves b′ r′ clear clear-lawful (q .0) refl,
     )
 
 -- ---- `split_off`
@@ -52,9 +48,9 @@ split-ok c r c′ at e =
 -- our side is left as by `truncate`, and the target has room for the others
 pub split-leaves : (b : List ℕ) (r : Rec) (c′ at : ℕ) → onSplitting (length b) r c′ at ≡ 0
     → Leaves b r (truncate at) × (length (drop at (held b r)) ≤ c′)
-unfolding onSplitting refusal truncate
-split-leaves b r c′ at e = (
-  op-leaves b r (truncate at) (truncate-lawful at)
-      (ap (onChange (length b) r) (sym (change-ok (length b) r _ e .1)) ∙ e),
-  simp (length-drop, length-held) (split-ok (length b) r c′ at e .2),
-)
+unfolding truncate
+split-leaves b r c′ at e =
+    let p = split-ok (length b) r c′ at e in (
+      rule-leaves b r (truncate at) (truncate-lawful at) (p .0) refl,
+      simp (length-drop, length-held) (p .2),
+    )

@@ -16,8 +16,9 @@ use Rattle.rules.specs.Makes.{noneMade, madeWith, fresh, readImage}
 use Rattle.rules.specs.Outcome.{State, Outcome, shut, draining, unchanged, refusal, accepted, doRule, doOpen, handsOver, nextOf, nextBackOf, doNext, doNextBack, doClose}
 use Rattle.rules.specs.Pairs.{PairOutcome, onAppending, appended, crossing, doAppend, onSplitting, splitted, doSplit}
 use Rattle.rules.specs.Records.{Rec}
+use Rattle.rules.specs.Regions.{onMoving, movedWhole, doMove, onPortion, ported, doPortion}
 use Rattle.rules.specs.Refusals.{onSlots, onLayout, room, onTaking}
-use Rattle.rules.specs.Sequences.{Queue, Pair, CallStep, Call, stillStep, lookStep, oneStep, bothStep, queueOf, pairOf, QueueCall, changing, asking, QueueChange, op, freshly, reading, opening, DrainCall, next, nextBack, close, PairCall, appending, splitting, comparing, madeOr, doMake, doOnQueue, doOnDrain, queueStep, pairStep, takenStep, firstStep, Side, sideA, sideB, Turn, facing, step}
+use Rattle.rules.specs.Sequences.{Queue, Pair, CallStep, Call, stillStep, lookStep, oneStep, bothStep, queueOf, pairOf, QueueCall, changing, asking, QueueChange, op, freshly, reading, opening, DrainCall, next, nextBack, close, PairCall, appending, splitting, moving, porting, comparing, madeOr, doMake, doOnQueue, doOnDrain, queueStep, pairStep, takenStep, firstStep, Side, sideA, sideB, Turn, facing, step}
 
 -- ---- one queue: refused, its outcome is that of a call that does nothing
 
@@ -109,9 +110,12 @@ module _ (b : List ℕ) (r : Rec) (b′ : List ℕ) (r′ : Rec) where
 
   pair-still : (k : PairCall)
       → let p = queueOf b (shut r) in let q = queueOf b′ (shut r′) in IsStill p q (pairStep p q r r′ k)
-  unfolding pairStep doAppend doSplit appended splitted crossing madeOr
+  unfolding pairStep doAppend doSplit doMove doPortion appended splitted movedWhole ported crossing madeOr
   pair-still appending = both-if (onAppending (length b) r (length b′) r′) (appended b r b′ r′) (some r′) [] refl refl
   pair-still (splitting at) = both-if (onSplitting (length b) r (length b′) at) (splitted b r b′ at) none _ refl refl
+  pair-still moving = both-if (onMoving (length b) r (length b′)) (movedWhole b r b′) none _ refl refl
+  pair-still (porting n) =
+      both-if (onPortion (length b) r (length b′) r′ n) (ported b r b′ r′ n) (some r′) [] refl refl
   pair-still (comparing a) = look-still _ _ _
 
 -- each call on the first queue, of its drain, and on both

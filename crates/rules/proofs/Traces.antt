@@ -13,52 +13,52 @@ use lib.Seq.{take-at, drop-at}
 use Rattle.rules.proofs.Places.{place-zero, place-suc, place-low, wrap}
 use Rattle.rules.proofs.Choices.{by-test, cases, neqb→ne}
 use Rattle.rules.specs.Count.{one-if}
-use Rattle.rules.specs.Moves.{marksFrom, Marked, slotOf, placesFrom, elsewhere, strays, marked}
+use Rattle.rules.specs.Moves.{tracesFrom, Traced, slotOf, placesFrom, elsewhere, strays, traced}
 use Rattle.rules.specs.Places.{place}
 use Rattle.rules.specs.Sequences.{Side, sideA, sideB}
 use Rattle.rules.specs.Slots.{read}
 use Rattle.rules.specs.Choices.{whether}
 
 module _ (d : Side) (cap : ℕ) (b : List ℕ) where
-  pub length-marks : (h n : ℕ) → length (marksFrom d cap b h n) ≡ n
-  unfolding marksFrom
-  length-marks h zero = refl
-  length-marks h (suc n) = ap suc (length-marks (place cap h 1) n)
+  pub length-traces : (h n : ℕ) → length (tracesFrom d cap b h n) ≡ n
+  unfolding tracesFrom
+  length-traces h zero = refl
+  length-traces h (suc n) = ap suc (length-traces (place cap h 1) n)
 
-  pub marks-none : (h : ℕ) → marksFrom d cap b h 0 ≡ []
-  unfolding marksFrom
-  marks-none h = refl
+  pub traces-none : (h : ℕ) → tracesFrom d cap b h 0 ≡ []
+  unfolding tracesFrom
+  traces-none h = refl
 
   -- without the slots they are the elements
-  pub numbers-marks : (h n : ℕ) → map (λ (e : Marked). e .number) (marksFrom d cap b h n) ≡ read cap b h n
-  unfolding marksFrom read
-  numbers-marks h zero = refl
-  numbers-marks h (suc n) = ap (λ (l : List ℕ). getD b h 0 ∷ l) (numbers-marks (place cap h 1) n)
+  pub numbers-traces : (h n : ℕ) → map (λ (e : Traced). e .number) (tracesFrom d cap b h n) ≡ read cap b h n
+  unfolding tracesFrom read
+  numbers-traces h zero = refl
+  numbers-traces h (suc n) = ap (λ (l : List ℕ). getD b h 0 ∷ l) (numbers-traces (place cap h 1) n)
 
   -- a stretch and the one behind it
-  pub marks-add : (h m n : ℕ) → h < cap → m ≤ cap
-      → marksFrom d cap b h (m + n) ≡ marksFrom d cap b h m ++ marksFrom d cap b (place cap h m) n
-  unfolding marksFrom
-  marks-add h zero n k le = rw (zero-add, place-zero cap h k)
-  marks-add h (suc m) n k le =
+  pub traces-add : (h m n : ℕ) → h < cap → m ≤ cap
+      → tracesFrom d cap b h (m + n) ≡ tracesFrom d cap b h m ++ tracesFrom d cap b (place cap h m) n
+  unfolding tracesFrom
+  traces-add h zero n k le = rw (zero-add, place-zero cap h k)
+  traces-add h (suc m) n k le =
       rw (suc-add, ← place-suc cap h k m (omega arith))
-      (ap (λ (l : List Marked). record { number = getD b h 0; origin = slotOf d h } ∷ l)
-      (marks-add (place cap h 1) m n (place-low cap h k 1 (omega arith)) (omega arith)))
+      (ap (λ (l : List Traced). record { number = getD b h 0; origin = slotOf d h } ∷ l)
+      (traces-add (place cap h 1) m n (place-low cap h k 1 (omega arith)) (omega arith)))
 
   module _ (h : ℕ) (in-ring : h < cap) (k n : ℕ) (le : k ≤ n) (fits : n ≤ cap) where
-    split : marksFrom d cap b h n ≡ marksFrom d cap b h k ++ marksFrom d cap b (place cap h k) (n - k)
-    split = ap (marksFrom d cap b h) (omega arith) ∙ marks-add h k (n - k) in-ring (omega arith)
+    split : tracesFrom d cap b h n ≡ tracesFrom d cap b h k ++ tracesFrom d cap b (place cap h k) (n - k)
+    split = ap (tracesFrom d cap b h) (omega arith) ∙ traces-add h k (n - k) in-ring (omega arith)
 
-    pub marks-take : take k (marksFrom d cap b h n) ≡ marksFrom d cap b h k
-    marks-take = ap (take k) split ∙ take-at (marksFrom d cap b h k) _ k (length-marks h k)
+    pub traces-take : take k (tracesFrom d cap b h n) ≡ tracesFrom d cap b h k
+    traces-take = ap (take k) split ∙ take-at (tracesFrom d cap b h k) _ k (length-traces h k)
 
-    pub marks-drop : drop k (marksFrom d cap b h n) ≡ marksFrom d cap b (place cap h k) (n - k)
-    marks-drop = ap (drop k) split ∙ drop-at (marksFrom d cap b h k) _ k (length-marks h k)
+    pub traces-drop : drop k (tracesFrom d cap b h n) ≡ tracesFrom d cap b (place cap h k) (n - k)
+    traces-drop = ap (drop k) split ∙ drop-at (tracesFrom d cap b h k) _ k (length-traces h k)
 
   -- the element at position i, and its slot
-  pub origin-at : (h n i : ℕ) (e : Marked) → h < cap → n ≤ cap → i < n
-      → getD (marksFrom d cap b h n) i e .origin ≡ slotOf d (place cap h i)
-  unfolding marksFrom
+  pub origin-at : (h n i : ℕ) (e : Traced) → h < cap → n ≤ cap → i < n
+      → getD (tracesFrom d cap b h n) i e .origin ≡ slotOf d (place cap h i)
+  unfolding tracesFrom
   origin-at h zero i e k fits lt = absurd (not-suc-le-zero lt)
   origin-at h (suc n) zero e k fits lt = ap (slotOf d) (sym (place-zero cap h k))
   origin-at h (suc n) (suc i) e k fits lt =
@@ -114,7 +114,7 @@ own-slot sideA s p = refl
 own-slot sideB s p = refl
 
 module _ (d : Side) where
-  pub strays-append : (l m : List Marked) (ps qs : List ℕ) → length l ≡ length ps
+  pub strays-append : (l m : List Traced) (ps qs : List ℕ) → length l ≡ length ps
       → strays d (l ++ m) (ps ++ qs) ≡ strays d l ps + strays d m qs
   unfolding strays
   strays-append [] m [] qs e = omega arith
@@ -127,23 +127,23 @@ module _ (d : Side) where
   strays-none ps = refl
 
   -- a part of a list where none stands elsewhere
-  strays-split : (i : ℕ) (l : List Marked) (ps : List ℕ) → length l ≡ length ps
+  strays-split : (i : ℕ) (l : List Traced) (ps : List ℕ) → length l ≡ length ps
       → strays d (take i l) (take i ps) + strays d (drop i l) (drop i ps) ≡ strays d l ps
   strays-split i l ps e =
       let long : length (take i l) ≡ length (take i ps) = simp length-take (omega arith) in
       sym (strays-append (take i l) (drop i l) (take i ps) (drop i ps) long) ∙ rw (take-append-drop, take-append-drop)
 
-  pub none-taken : (i : ℕ) (l : List Marked) (ps : List ℕ) → length l ≡ length ps → strays d l ps ≡ 0
+  pub none-taken : (i : ℕ) (l : List Traced) (ps : List ℕ) → length l ≡ length ps → strays d l ps ≡ 0
       → strays d (take i l) (take i ps) ≡ 0
   none-taken i l ps e z = omega (arith, strays-split i l ps e)
 
-  pub none-dropped : (i : ℕ) (l : List Marked) (ps : List ℕ) → length l ≡ length ps → strays d l ps ≡ 0
+  pub none-dropped : (i : ℕ) (l : List Traced) (ps : List ℕ) → length l ≡ length ps → strays d l ps ≡ 0
       → strays d (drop i l) (drop i ps) ≡ 0
   none-dropped i l ps e z = omega (arith, strays-split i l ps e)
 
   -- all of them stood in the other queue
-  pub strays-crossed : (l : List Marked) (ps : List ℕ) → length l ≡ length ps
-      → ((i : ℕ) (e : Marked) → i < length l → (p : ℕ) → elsewhere d (getD l i e .origin) p ≡ 1)
+  pub strays-crossed : (l : List Traced) (ps : List ℕ) → length l ≡ length ps
+      → ((i : ℕ) (e : Traced) → i < length l → (p : ℕ) → elsewhere d (getD l i e .origin) p ≡ 1)
       → strays d l ps ≡ length l
   unfolding strays
   strays-crossed [] ps e f = refl
@@ -152,7 +152,7 @@ module _ (d : Side) where
       omega (arith, f 0 x (omega arith) p, strays-crossed l ps (omega arith) (λ i y lt q. f (suc i) y (omega arith) q))
 
   -- one element is replaced
-  pub strays-set : (l : List Marked) (ps : List ℕ) (i : ℕ) (x e : Marked) → i < length l → length l ≡ length ps
+  pub strays-set : (l : List Traced) (ps : List ℕ) (i : ℕ) (x e : Traced) → i < length l → length l ≡ length ps
       → strays d (set l i x) ps + elsewhere d (getD l i e .origin) (getD ps i 0)
       ≡ strays d l ps + elsewhere d (x .origin) (getD ps i 0)
   unfolding strays
@@ -163,7 +163,7 @@ module _ (d : Side) where
       omega (arith, strays-set l ps i x e (le-of-suc-le-suc lt) (omega arith))
 
   -- what comes from outside stood nowhere
-  pub strays-made : (vs ps : List ℕ) → strays d (map (marked .brought) vs) ps ≡ 0
+  pub strays-made : (vs ps : List ℕ) → strays d (map (traced .brought) vs) ps ≡ 0
   unfolding strays elsewhere
   strays-made [] ps = refl
   strays-made (v ∷ vs) [] = refl
@@ -194,8 +194,8 @@ module _ (d : Side) where
 
     -- each of k elements stands elsewhere, if the first does
     pub strays-stretch : (h h′ k : ℕ) → h < cap → h′ < cap → k ≤ cap
-        → strays d (marksFrom d cap b h k) (placesFrom cap h′ k) ≡ stretch h h′ k
-    unfolding marksFrom placesFrom strays
+        → strays d (tracesFrom d cap b h k) (placesFrom cap h′ k) ≡ stretch h h′ k
+    unfolding tracesFrom placesFrom strays
     strays-stretch h h′ zero i i′ le = sym (stretch-none h h′)
     strays-stretch h h′ (suc k) i i′ le =
         rw (
@@ -220,26 +220,26 @@ module _ (d : Side) where
     -- from outside, then those from position j on, laid from h′ on
     pub strays-cut : (h h′ n i j : ℕ) (vs : List ℕ) → h < cap → h′ < cap → n ≤ cap → i ≤ j → j ≤ n
         → i + length vs + (n - j) ≤ cap
-        → strays d (take i (marksFrom d cap b h n) ++ (map (marked .brought) vs ++ drop j (marksFrom d cap b h n)))
+        → strays d (take i (tracesFrom d cap b h n) ++ (map (traced .brought) vs ++ drop j (tracesFrom d cap b h n)))
         (placesFrom cap h′ (i + length vs + (n - j)))
         ≡ stretch h h′ i + stretch (place cap h j) (place cap h′ (i + length vs)) (n - j)
     strays-cut h h′ n i j vs g g′ fits le le′ room =
         let k = n - j in
-        let v = map (marked .brought) vs in
+        let v = map (traced .brought) vs in
         let long : length v ≡ length (placesFrom cap (place cap h′ i) (length vs)) =
-        length-map vs (marked .brought) ∙ sym (length-places cap (place cap h′ i) (length vs)) in
-        let front : length (marksFrom d cap b h i) ≡ length (placesFrom cap h′ i) =
-        length-marks d cap b h i ∙ sym (length-places cap h′ i) in
+        length-map vs (traced .brought) ∙ sym (length-places cap (place cap h′ i) (length vs)) in
+        let front : length (tracesFrom d cap b h i) ≡ length (placesFrom cap h′ i) =
+        length-traces d cap b h i ∙ sym (length-places cap h′ i) in
         rw (
-          marks-take d cap b h g i n (omega arith) fits,
-          marks-drop d cap b h g j n le′ fits,
+          traces-take d cap b h g i n (omega arith) fits,
+          traces-drop d cap b h g j n le′ fits,
           three-places h′ i (length vs) k g′ room,
         )
         (omega (
           arith,
-          strays-append (marksFrom d cap b h i) (v ++ marksFrom d cap b (place cap h j) k) (placesFrom cap h′ i)
+          strays-append (tracesFrom d cap b h i) (v ++ tracesFrom d cap b (place cap h j) k) (placesFrom cap h′ i)
               (placesFrom cap (place cap h′ i) (length vs) ++ placesFrom cap (place cap h′ (i + length vs)) k) front,
-          strays-append v (marksFrom d cap b (place cap h j) k) (placesFrom cap (place cap h′ i) (length vs))
+          strays-append v (tracesFrom d cap b (place cap h j) k) (placesFrom cap (place cap h′ i) (length vs))
               (placesFrom cap (place cap h′ (i + length vs)) k) long,
           strays-made vs (placesFrom cap (place cap h′ i) (length vs)),
           strays-stretch h h′ i g g′ (omega arith),
