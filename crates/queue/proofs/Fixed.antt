@@ -34,7 +34,7 @@ use Rattle.queue.specs.declared.records.State.the-variants as kept
 use Rattle.queue.specs.declared.records.Walk.{Walk}
 use Rattle.queue.specs.declared.records.Span.{Span}
 use Rattle.queue.specs.declared.refusals.Refusal.{Refusal}
-use Rattle.queue.specs.declared.refusals.Refusal.the-variants.{Slots, Record, Position, Room, Image}
+use Rattle.queue.specs.declared.refusals.Refusal.the-variants.{Slots, Record, Position, Room, Image, Open}
 use Rattle.queue.specs.declared.refusals.Checked.{Checked}
 use Rattle.queue.specs.declared.refusals.Checked.the-variants as checked
 use Rattle.queue.specs.declared.answers.Change.{Change}
@@ -65,7 +65,10 @@ one-possible {A} {B} {C} say one told r r′ x x′ e e′ =
 
 -- the refusal of a number
 unfoldable pub named : ℕ → Refusal
-named n = whether (eqb n 1) Slots (whether (eqb n 2) Record (whether (eqb n 3) Position (whether (eqb n 4) Room Image)))
+named n =
+    whether (eqb n 1) Slots
+    (whether (eqb n 2) Record
+    (whether (eqb n 3) Position (whether (eqb n 4) Room (whether (eqb n 5) Image Open))))
 
 pub named-back : (x : Refusal) → named (numberOf x) ≡ x
 unfolding named numberOf whether
@@ -74,6 +77,7 @@ named-back Record = refl
 named-back Position = refl
 named-back Room = refl
 named-back Image = refl
+named-back Open = refl
 
 -- the answer for a refusal number: a where it is 0, else f of the refusal
 abbrev pub byNumber : {A : Type 0} → ℕ → A → (Refusal → A) → A
@@ -98,7 +102,7 @@ one-checked = fixed numberIn checkedFrom checked-back
 -- ---- the records: the way back from those that the rules speak of
 
 abbrev pub dequeFrom : Rec → Deque
-dequeFrom r = record { head = record { 0 = r .head }; len = r .len }
+dequeFrom r = record { head = record { 0 = r .head }; len = r .len; mark = r .mark }
 
 abbrev pub drainFrom : Drain → Draining
 drainFrom d = record {

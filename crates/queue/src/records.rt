@@ -4,17 +4,19 @@ ghost use mathlib.Core.Path.{_≡_};
 ghost use Prim.Native.Nat.{_+_, _<_, _≤_};
 ghost use lib.Dec.{eqb};
 ghost use Rattle.rules.specs.Drains.{opened, oneLess, fromFront, fromBack, spread, asOpened};
-ghost use Rattle.rules.specs.Records.{stepped, newRec};
+ghost use Rattle.rules.specs.Records.{stepped, newRec, withMark};
 ghost use Rattle.rules.specs.Choices.{whether};
 ghost use Rattle.rules.specs.Walks.{wholeWalk};
 ghost use Rattle.queue.specs.Answers.{recOf};
 ghost use Rattle.queue.specs.Drains.{drainOf};
 ghost use Rattle.queue.specs.Looks.{walkOf};
 
-// Element i stands `i` places on from `head`.
+// Element i stands `i` places on from `head`. The mark is set while elements are still to come, by portions, from the
+// queue that is moved into this one.
 pub struct Deque {
     pub head: WrappedIndex,
     pub len: usize,
+    pub mark: bool,
 }
 
 // The record of an open drain. In front of the drained range stand `start` elements, behind it `tail_len`; of its
@@ -51,16 +53,33 @@ pub struct Span {
 pub fn stepped(q: Deque, head: WrappedIndex, len: usize) -> Deque
     ensures { λ r. ⌜ recOf r ≡ stepped (recOf q) (head .0) len ⌝ }
 {
-    Deque { head, len }
+    Deque {
+        head,
+        len,
+        mark: q.mark,
+    }
 }
 
-// A new record over `len` elements that stand from the first slot on.
+// The record with the mark set, or cleared.
+pub fn with_mark(q: Deque, mark: bool) -> Deque
+    ensures { λ r. ⌜ recOf r ≡ withMark mark (recOf q) ⌝ }
+{
+    let head = q.head;
+    Deque {
+        head,
+        len: q.len,
+        mark,
+    }
+}
+
+// A new record over `len` elements that stand from the first slot on, without a mark.
 pub fn new_record(len: usize) -> Deque
     ensures { λ r. ⌜ recOf r ≡ newRec len ⌝ }
 {
     Deque {
         head: WrappedIndex::zero(),
         len,
+        mark: false,
     }
 }
 
@@ -123,7 +142,7 @@ pub fn from_back(d: Drain) -> Drain
     one_less(d, d.idx)
 }
 
-// The queue's record as the drain was opened.
+// The queue's record as the drain was opened, which it is only on a queue without a mark.
 pub fn as_opened(d: Drain) -> Deque
     requires { ⌜ spread (drainOf d) < 18446744073709551616 ⌝ }
     ensures { λ r. ⌜ recOf r ≡ asOpened (drainOf d) ⌝ }
@@ -132,6 +151,7 @@ pub fn as_opened(d: Drain) -> Deque
     Deque {
         head,
         len: d.start + d.drain_len + d.tail_len,
+        mark: false,
     }
 }
 

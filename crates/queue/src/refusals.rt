@@ -12,13 +12,14 @@ ghost use Rattle.queue.specs.Drains.{drainOf};
 ghost use Rattle.queue.specs.Looks.{walkOf};
 
 // Why a call is refused, by its number from 1 on: too many slots, a record that is not good,
-// a position past the end, no room, bytes that are no image.
+// a position past the end, no room, bytes that are no image, a move into the queue that is open.
 pub enum Refusal {
     Slots,
     Record,
     Position,
     Room,
     Image,
+    Open,
 }
 
 // What tests say.
@@ -59,11 +60,18 @@ pub fn check(cap: usize, q: Deque) -> Checked
     Checked::Refused(Refusal::Slots)
 }
 
-// The tests that a call of a kind that can change the queue asks first; one that only looks asks `check`.
+// The tests that a call of a kind that can change the queue asks first: slots, record, and whether a move into it is
+// open. One that only looks asks `check`.
 pub fn check_change(cap: usize, q: Deque) -> Checked
     ensures { λ r. ⌜ numberIn r ≡ onChange cap (recOf q) 0 ⌝ }
 {
-    check(cap, q)
+    if let Checked::Refused(refusal) = check(cap, q) {
+        return Checked::Refused(refusal);
+    }
+    if q.mark {
+        return Checked::Refused(Refusal::Open);
+    }
+    Checked::Good
 }
 
 // The tests of a range of the positions of `len` elements: it begins before it ends, and ends within them.

@@ -1,15 +1,28 @@
--- `queue::check_change` meets its contract. Assumes nothing.
+-- `queue::check_change` meets its contract: one law for each return. Assumes nothing.
 use borrow.Author.Needs.{needs}
+use Rattle.queue.proofs.Checks.{first-checked, open-checked, unmarked-checked}
 use Rattle.queue.proofs.refusals.check_change.Statement.{statement}
 use Rattle.queue.proofs.refusals.check_change.Tie as tie
-use Rattle.rules.specs.Refusals.{onChange}
 
 check-requires : tie.Need-check-requires
 check-requires c κs = search needs
 
+enum-known-refusal : tie.Need-enum-known-refusal
+enum-known-refusal c = search needs
+
 returns : tie.Need-returns
-unfolding onChange
-returns c = c .check .ensures
+returns c = first-checked _ _ _ (c .before .before .before .check .ensures) _ (c .before .refusal .given .1)
+
+enum-told : tie.Need-enum-told
+enum-told c = search needs
+
+returns-2 : tie.Need-returns-2
+returns-2 c =
+    open-checked _ _ _ (c .before .before .before .check .ensures) (c .before .enum-told .given .1) (c .if1 .taken)
+
+returns-3 : tie.Need-returns-3
+returns-3 c =
+    unmarked-checked _ _ _ (c .before .before .before .check .ensures) (c .before .enum-told .given .1) (c .if1 .left)
 
 pub check-change-spec : {M : Type 1} → statement M
-check-change-spec = tie.close (tie.spec check-requires returns)
+check-change-spec = tie.close (tie.spec check-requires enum-known-refusal returns enum-told returns-2 returns-3)
