@@ -134,8 +134,11 @@ unfolding whether
 passed-moved b h n k good fits le =
     ⊎-elim
     (λ lt. rw (ne-eqb (n - k) 0 (λ e. omega arith)) (drop-moved sideA b h n good fits k le))
-    (λ ge. rw (drop-of-length-le (tracesFrom sideA (length b) b h n) {i = k}
-    (omega (arith, length-traces sideA (length b) b h n)), strays-none))
+    (λ ge. rw (
+      drop-of-length-le (tracesFrom sideA (length b) b h n) {i = k}
+          (omega (arith, length-traces sideA (length b) b h n)),
+      strays-none,
+    ))
     (lt-or-ge k n)
 
 step-refused : (b : List ℕ) (r : Rec) (b′ : List ℕ) (r′ : Rec) (n : ℕ) (x : Option Rec) (gone : List ℕ)
