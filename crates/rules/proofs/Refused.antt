@@ -72,7 +72,7 @@ drain-still b d close = unchanged-if b (draining d) (onDrain (length b) d)
 
 -- ---- two queues: refused, the step is one that leaves both, and sees nothing
 
-abbrev IsStill : Queue → Queue → CallStep → Type 0
+abbrev pub IsStill : Queue → Queue → CallStep → Type 0
 IsStill p q o = o .refused ≢ 0 → o ≡ stillStep p q (o .refused) none
 
 -- a look
@@ -119,7 +119,7 @@ module _ (b : List ℕ) (r : Rec) (b′ : List ℕ) (r′ : Rec) where
   pair-still (comparing a) = look-still _ _ _
 
 -- each call on the first queue, of its drain, and on both
-first-still : (p q : Queue) (k : Call) → IsStill p q (firstStep p q k)
+pub first-still : (p q : Queue) (k : Call) → IsStill p q (firstStep p q k)
 unfolding firstStep takenStep stillStep
 first-still p q k =
     by-taking (p .state) (q .state) k
@@ -130,7 +130,7 @@ first-still p q k =
     (λ r r′ c. pair-still (p .slots) r (q .slots) r′ c)
 
 -- the same step, told of the queues in the other order
-abbrev turned : CallStep → CallStep
+abbrev pub turned : CallStep → CallStep
 turned o = record {
   queues = pairOf (o .queues .b) (o .queues .a);
   refused = o .refused;

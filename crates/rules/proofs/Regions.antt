@@ -1,11 +1,11 @@
 -- What the moves into another region leave: good records, and the lists that the rules give. Assumes nothing.
 use mathlib.Core.List.{List}
-use mathlib.Core.Path.{_≡_, refl}
+use mathlib.Core.Path.{_≡_, refl, sym, ap, _∙_}
 use Prim.Native.Nat.{ℕ, _+_, _≤_, _-_, min, zero, suc}
 use native.Mathlib.Omega.{arith}
 use borrow.Author.Tests.{ne-eqb}
 use lib.Dec.{eqb}
-use lib.ListN.{length, take, drop, length-drop, length-take}
+use lib.ListN.{length, take, drop, length-drop, length-take, drop-of-length-le}
 use Rattle.rules.proofs.Count.{tally-nil, tally-split}
 use Rattle.rules.proofs.Ends.{clear-lawful}
 use Rattle.rules.proofs.Fit.{rule-leaves, Leaves}
@@ -14,11 +14,14 @@ use Rattle.rules.proofs.Joins.{extend-lawful}
 use Rattle.rules.proofs.Lawful.{Lawful}
 use Rattle.rules.proofs.Places.{place-good}
 use Rattle.rules.proofs.Refusals.{Good, change-ok, queue-ok, room-ok, slots-ok, some-room}
+use Rattle.rules.proofs.Slots.{lay-own, listOf-drop, listOf-none}
 use Rattle.rules.specs.Ends.{clear}
 use Rattle.rules.specs.Joins.{extendWith}
+use Rattle.rules.specs.Outcome.{recAfter}
 use Rattle.rules.specs.Places.{place}
-use Rattle.rules.specs.Records.{Rec, held}
+use Rattle.rules.specs.Records.{Rec, held, stepped}
 use Rattle.rules.specs.Regions.{onMoving, onPortion, passOn}
+use Rattle.rules.specs.Slots.{lay}
 use Rattle.rules.specs.Choices.{whether}
 
 -- ---- whole
@@ -55,6 +58,29 @@ passOn-lawful k = record {
   balance = λ x c l e. omega (arith, tally-split x k l, tally-nil x);
   good = λ c h l g le e. passed-good c h (length l) k g le;
 }
+
+-- the old queue's record after the first k have gone
+abbrev pub rest : List ℕ → Rec → ℕ → Rec
+rest b r k = recAfter b r (passOn k)
+
+-- what it then holds stands where it stood
+pub held-rest : (b : List ℕ) (r : Rec) (k : ℕ) → Good (length b) r → held b (rest b r k) ≡ drop k (held b r)
+unfolding held recAfter passOn stepped whether
+held-rest b r k g = by (r .len - k) refl
+  where
+    by : (m : ℕ) → r .len - k ≡ m → held b (rest b r k) ≡ drop k (held b r)
+    by zero e = rw (e, drop-of-length-le (held b r) {i = k} (omega (arith, length-held b r))) (listOf-none b _)
+    by (suc m) e =
+        rw (ne-eqb (r .len - k) 0 (λ z. omega arith))
+        (sym (listOf-drop b (r .head) (omega (arith, g .placed, g .fits)) k (r .len) (omega arith) (g .fits)))
+
+-- so laying it writes nothing
+pub left-standing : (b : List ℕ) (r : Rec) (k : ℕ) → Good (length b) r
+    → lay b (whether (eqb (r .len - k) 0) 0 (place (length b) (r .head) k)) (drop k (held b r)) ≡ b
+unfolding held recAfter passOn stepped
+left-standing b r k g =
+    let h = rest b r k .head in
+    ap (lay b h) (sym (held-rest b r k g)) ∙ lay-own b h (rest b r k .len)
 
 pub portion-ok : (c : ℕ) (r : Rec) (c′ : ℕ) (r′ : Rec) (n : ℕ) → onPortion c r c′ r′ n ≡ 0
     → Good c r × Good c′ r′ × (r′ .len + min n (r .len) ≤ c′)
