@@ -22,7 +22,7 @@ pub struct StepAnswer {
     pub b: State,
 }
 
-// The answer of `append`.
+// The answer of `append` and `move_portion`.
 pub fn of_joined(joined: Joined) -> StepAnswer
     ensures { λ r. ⌜ ((h : Kept) → ofStepAnswer r ≡ bothAnswered h (ofJoined joined)) ⌝ }
 {
@@ -55,7 +55,7 @@ pub fn of_joined(joined: Joined) -> StepAnswer
     }
 }
 
-// The answer of `split_off`; refused, what was held of the target stays.
+// The answer of `split_off` and `move_all`; refused, what was held of the target stays.
 pub fn of_split(before: State, split: Split) -> StepAnswer
     ensures { λ r. ⌜ ofStepAnswer r ≡ bothAnswered (stateOf before) (ofSplit split) ⌝ }
 {

@@ -32,6 +32,7 @@ pub fn number_of(refusal: Refusal) -> usize
         Refusal::Position => 3,
         Refusal::Room => 4,
         Refusal::Image => 5,
+        Refusal::Open => 6,
     }
 }
 

@@ -16,6 +16,7 @@ pub fn pop_front(slots: &[u32], q: Deque) -> Handed
     ensures { λ r. ⌜ (ofHanded r, now (slots .entry)) ≡ told (doRule (now (slots .entry)) (recOf q) popFront) ⌝ }
 {
     let cap = slots.len();
+    // asked of an empty queue, too: a refusal comes before Nothing
     if let Checked::Refused(refusal) = queue::check_change(cap, q) {
         return elements::refused(refusal, q);
     }

@@ -22,7 +22,7 @@ use Rattle.turn_calls.specs.declared.DrainCall.the-variants.{Next, NextB
 use Rattle.turn_calls.specs.declared.AskBoth.{AskBoth}
 use Rattle.turn_calls.specs.declared.AskBoth.the-variants.{Eq, Cmp}
 use Rattle.turn_calls.specs.declared.PairCall.{PairCall}
-use Rattle.turn_calls.specs.declared.PairCall.the-variants.{Append, SplitOff, Comparing}
+use Rattle.turn_calls.specs.declared.PairCall.the-variants.{Append, SplitOff, MoveAll, MovePortion, Comparing}
 use Rattle.turn_calls.specs.declared.Call.{Call}
 use Rattle.turn_calls.specs.declared.Call.the-variants.{OfQueue, OfDrain, OfBoth}
 use Rattle.turn_calls.specs.declared.Side.{Side}
@@ -96,6 +96,8 @@ askBothOf Cmp = asks.cmp?
 abbrev pub pairCallOf : PairCall → rules.PairCall
 pairCallOf Append = rules.appending
 pairCallOf (SplitOff i) = rules.splitting i
+pairCallOf MoveAll = rules.moving
+pairCallOf (MovePortion n) = rules.porting n
 pairCallOf (Comparing a) = rules.comparing (askBothOf a)
 
 -- any

@@ -75,11 +75,13 @@ pub enum AskBoth {
     Cmp,
 }
 
-// The calls on two queues of which no drain is open: `Append` takes the other queue's elements, `SplitOff` fills the
-// other's slots.
+// The calls on two queues of which no drain is open: `Append` takes the other queue's elements, `SplitOff` and `MoveAll`
+// fill the other's slots, `MovePortion` passes elements on to the other.
 pub enum PairCall {
     Append,
     SplitOff(usize),
+    MoveAll,
+    MovePortion(usize),
     Comparing(AskBoth),
 }
 

@@ -1,0 +1,3 @@
+-- `Asks`: the tests; `Moves`: what the calls do.
+pub mod Asks
+pub mod Moves
