@@ -5,7 +5,7 @@ use native.Mathlib.Omega.{arith}
 use Rattle.queue.proofs.Numbers.{some-number}
 use Rattle.queue.specs.Answers.{numberOf}
 use Rattle.queue.specs.declared.refusals.Refusal.{Refusal}
-use Rattle.queue.specs.declared.refusals.Refusal.the-variants.{Slots, Record, Position, Room, Image}
+use Rattle.queue.specs.declared.refusals.Refusal.the-variants.{Slots, Record, Position, Room, Image, Open}
 use Rattle.rules.proofs.Choices.{unless-stop}
 use Rattle.rules.specs.Choices.{unless}
 
@@ -42,10 +42,11 @@ stay {S} {W} s x new old new′ old′ =
     ∙ ap (λ (w : W). (s, unless (numberOf x) new old, w)) (sym (unless-stop (numberOf x) new′ old′ (some-number x)))
 
 -- a refusal number fits any width
-pub few : (n : ℕ) (x : Refusal) → n ≡ numberOf x → n ≤ 5
+pub few : (n : ℕ) (x : Refusal) → n ≡ numberOf x → n ≤ 6
 unfolding numberOf
 few n Slots e = omega arith
 few n Record e = omega arith
 few n Position e = omega arith
 few n Room e = omega arith
 few n Image e = omega arith
+few n Open e = omega arith

@@ -1,8 +1,11 @@
 -- The records as they cross: the numbers of their fields, one behind
 -- the other, as words of the caller's memory. Assumes nothing.
+use mathlib.Core.Bool.{not}
 use mathlib.Core.List.{List, [], _∷_, _++_}
 use Prim.Native.Nat.{ℕ}
+use lib.Dec.{eqb}
 use lib.ListN.{getD}
+use Rattle.rules.specs.Choices.{whether}
 use Rattle.rules.specs.Drains.{Drain}
 use Rattle.rules.specs.Outcome.{State, shut, draining}
 use Rattle.rules.specs.Records.{Rec}
@@ -11,9 +14,13 @@ use Rattle.rules.specs.Walks.{Walk}
 
 -- ---- as they are read
 
--- head, len
+-- of head, len and the mark's word: any but 0 is set
+unfoldable pub recFrom : ℕ → ℕ → ℕ → Rec
+recFrom h n m = record { head = h; len = n; mark = not (eqb m 0) }
+
+-- head, len, mark
 unfoldable pub recIn : List ℕ → Rec
-recIn l = record { head = getD l 0 0; len = getD l 1 0 }
+recIn l = recFrom (getD l 0 0) (getD l 1 0) (getD l 2 0)
 
 -- head, start, drain_len, idx, tail_len, remaining
 unfoldable pub drainIn : List ℕ → Drain
@@ -26,14 +33,15 @@ drainIn l = record {
   remaining = getD l 5 0;
 }
 
--- the record's two, low, high
+-- the record's three, low, high
 unfoldable pub walkIn : List ℕ → Walk
-walkIn l = record { rec = recIn l; low = getD l 2 0; high = getD l 3 0 }
+walkIn l = record { rec = recIn l; low = getD l 3 0; high = getD l 4 0 }
 
 -- ---- as they are stored, in the same order
 
+-- a mark that is set is 1, none is 0
 unfoldable pub recWords : Rec → List ℕ
-recWords r = r .head ∷ r .len ∷ []
+recWords r = r .head ∷ r .len ∷ whether (r .mark) 1 0 ∷ []
 
 unfoldable pub drainWords : Drain → List ℕ
 drainWords d = d .head ∷ d .start ∷ d .drained ∷ d .idx ∷ d .tail ∷ d .remaining ∷ []

@@ -119,7 +119,7 @@ pub fn made(q: &mut [usize; RECORD], made: Made) -> Reply
     }
 }
 
-// Stores both records after `append`, if it was accepted.
+// Stores both records after `append` or a portion, if it was accepted.
 pub fn joined(q: &mut [usize; RECORD], other: &mut [usize; RECORD], joined: Joined) -> Reply
     ensures { λ r. ⌜ (ofReply r, now (q .exit), now (other .exit))
         ≡ pairInC (now (q .entry)) (now (other .entry)) (ofJoined joined) ⌝ }
@@ -127,11 +127,11 @@ pub fn joined(q: &mut [usize; RECORD], other: &mut [usize; RECORD], joined: Join
     match joined {
         Joined::Done {
             queue,
-            other: emptied,
+            other: theirs,
             moved,
         } => {
             store_deque(q, queue);
-            store_deque(other, emptied);
+            store_deque(other, theirs);
             done(moved)
         }
         Joined::Refused {
@@ -143,7 +143,7 @@ pub fn joined(q: &mut [usize; RECORD], other: &mut [usize; RECORD], joined: Join
     }
 }
 
-// Stores the record after `split_off` and the target's, if it was accepted.
+// Stores the record after `split_off` or a whole move, and the target's, if it was accepted.
 pub fn split(q: &mut [usize; RECORD], t: &mut [usize; RECORD], split: Split) -> Reply
     ensures { λ r. ⌜ (ofReply r, now (q .exit), now (t .exit))
         ≡ pairInC (now (q .entry)) (now (t .entry)) (ofSplit split) ⌝ }

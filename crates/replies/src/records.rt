@@ -10,10 +10,10 @@ ghost use Rattle.queue.specs.Answers.{recOf};
 ghost use Rattle.queue.specs.Drains.{drainOf};
 ghost use Rattle.queue.specs.Looks.{spanOf, walkOf};
 ghost use Rattle.rules.specs.Runs.{twoRuns};
-ghost use Rattle.replies.specs.Records.{recIn, recWords, drainIn, drainWords, walkIn, walkWords, runsWords};
+ghost use Rattle.replies.specs.Records.{recFrom, recIn, recWords, drainIn, drainWords, walkIn, walkWords, runsWords};
 
-// How many words the record of a queue has.
-pub const RECORD: usize = 2;
+// How many words the record of a queue has: head, len, mark.
+pub const RECORD: usize = 3;
 
 // Of an open drain.
 pub const DRAIN: usize = 6;
@@ -24,14 +24,22 @@ pub const WALK: usize = RECORD + 2;
 // Of the places of two runs.
 pub const RUNS: usize = 4;
 
+// The record of a queue, of its words. Any mark but 0 is set: so a word that no call stored can't be taken for none.
+fn record_from(head: usize, len: usize, mark: usize) -> Deque
+    ensures { λ r. ⌜ recOf r ≡ recFrom head len mark ⌝ }
+{
+    Deque {
+        head: WrappedIndex::from_arbitrary_number(head),
+        len,
+        mark: mark != 0,
+    }
+}
+
 // The record of a queue.
 pub fn deque_in(q: &[usize; RECORD]) -> Deque
     ensures { λ r. ⌜ recOf r ≡ recIn (now (q .entry)) ⌝ }
 {
-    Deque {
-        head: WrappedIndex::from_arbitrary_number(q[0]),
-        len: q[1],
-    }
+    record_from(q[0], q[1], q[2])
 }
 
 // The record of an open drain.
@@ -53,12 +61,9 @@ pub fn walk_in(w: &[usize; WALK]) -> Walk
     ensures { λ r. ⌜ walkOf r ≡ walkIn (now (w .entry)) ⌝ }
 {
     Walk {
-        queue: Deque {
-            head: WrappedIndex::from_arbitrary_number(w[0]),
-            len: w[1],
-        },
-        low: w[2],
-        high: w[3],
+        queue: record_from(w[0], w[1], w[2]),
+        low: w[3],
+        high: w[4],
     }
 }
 
@@ -67,7 +72,8 @@ pub fn store_deque(q: &mut [usize; RECORD], queue: Deque)
     ensures { λ _. ⌜ now (q .exit) ≡ recWords (recOf queue) ⌝ }
 {
     let head = queue.head;
-    *q = [head.as_index(), queue.len];
+    let mark = queue.mark as usize;
+    *q = [head.as_index(), queue.len, mark];
 }
 
 // Stores the record of an open drain.
@@ -91,7 +97,8 @@ pub fn store_walk(w: &mut [usize; WALK], walk: Walk)
 {
     let queue = walk.queue;
     let head = queue.head;
-    *w = [head.as_index(), queue.len, walk.low, walk.high];
+    let mark = queue.mark as usize;
+    *w = [head.as_index(), queue.len, mark, walk.low, walk.high];
 }
 
 // Stores the places of two runs.

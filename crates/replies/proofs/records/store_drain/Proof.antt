@@ -8,7 +8,7 @@ as-index-requires : tie.Need-as-index-requires
 as-index-requires c κs = search needs
 
 returns : tie.Need-returns
-returns c = drain-stored _ _ (c .before .as-index .ensures) _ _ _ _ _
+returns c = drain-stored _ _ (c .before .as-index .ensures)
 
 pub store-drain-spec : {M : Type 1} → statement M
 store-drain-spec = tie.close (tie.spec as-index-requires returns)

@@ -1,34 +1,40 @@
 -- `replies::records::walk_in` meets its contract. Assumes nothing.
 use Rattle.replies.proofs.Stored.{walk-read}
+use Rattle.replies.specs.Records.{recIn}
 use borrow.Author.Needs.{needs}
 use Rattle.replies.proofs.records.walk_in.Statement.{statement}
 use Rattle.replies.proofs.records.walk_in.Tie as tie
 
-element-copy-out-from-arbitrary-number : tie.Need-element-copy-out-from-arbitrary-number
-element-copy-out-from-arbitrary-number c = search needs
+element-copy-out-record-from : tie.Need-element-copy-out-record-from
+element-copy-out-record-from c = search needs
 
-from-arbitrary-number-requires : tie.Need-from-arbitrary-number-requires
-from-arbitrary-number-requires c κs = search needs
+element-copy-out-record-from-2 : tie.Need-element-copy-out-record-from-2
+element-copy-out-record-from-2 c = search needs
 
-element-copy-out-t8 : tie.Need-element-copy-out-t8
-element-copy-out-t8 c = search needs
+element-copy-out-record-from-3 : tie.Need-element-copy-out-record-from-3
+element-copy-out-record-from-3 c = search needs
 
-element-copy-out-t12 : tie.Need-element-copy-out-t12
-element-copy-out-t12 c = search needs
+record-from-requires : tie.Need-record-from-requires
+record-from-requires c κs = search needs
 
-element-copy-out-t15 : tie.Need-element-copy-out-t15
-element-copy-out-t15 c = search needs
+element-copy-out-t14 : tie.Need-element-copy-out-t14
+element-copy-out-t14 c = search needs
+
+element-copy-out-t17 : tie.Need-element-copy-out-t17
+element-copy-out-t17 c = search needs
 
 returns : tie.Need-returns
-returns c = walk-read _ _ (c .before .before .before .from-arbitrary-number .ensures)
+unfolding recIn
+returns c = walk-read _ _ (c .before .before .record-from .ensures)
 
 pub walk-in-spec : {M : Type 1} → statement M
 walk-in-spec =
     tie.close
     (tie.spec
-    element-copy-out-from-arbitrary-number
-    from-arbitrary-number-requires
-    element-copy-out-t8
-    element-copy-out-t12
-    element-copy-out-t15
+    element-copy-out-record-from
+    element-copy-out-record-from-2
+    element-copy-out-record-from-3
+    record-from-requires
+    element-copy-out-t14
+    element-copy-out-t17
     returns)
