@@ -1,26 +1,23 @@
 -- What the moves do: one law for each return. b, r: the old slots and
 -- record; b′, r′: the new queue's. Assumes nothing.
 use mathlib.Core.List.{List}
-use mathlib.Core.Logic.{⊎-elim}
 use mathlib.Core.Option.{none, some}
-use mathlib.Core.Path.{_≡_, _∙_, ap}
+use mathlib.Core.Path.{_≡_}
 use Prim.Native.Nat.{ℕ, _+_, _-_, min}
 use native.Mathlib.Omega.{arith}
-use borrow.Author.Tests.{ne-eqb}
 use lib.Dec.{eqb, ltb}
-use lib.ListN.{length, take, drop, drop-of-length-le}
+use lib.ListN.{length, take}
 use lib.Seq.{take-all}
 use Rattle.extends.proofs.Behind.{lay-behind-good}
 use Rattle.queue.proofs.Checks.{failed-number}
 use Rattle.queue.proofs.Numbers.{some-number}
 use Rattle.queue.specs.Answers.{numberIn, numberOf}
 use Rattle.regions.proofs.Asks.{portion}
-use Rattle.rules.proofs.Choices.{lt-or-ge, unless-stop}
+use Rattle.rules.proofs.Choices.{unless-stop}
 use Rattle.rules.proofs.Held.{length-held}
 use Rattle.rules.proofs.Made.{map-brought}
-use Rattle.rules.proofs.Refusals.{Good}
-use Rattle.rules.proofs.Regions.{portion-long}
-use Rattle.rules.proofs.Slots.{lay-none, lay-own, listOf-drop}
+use Rattle.rules.proofs.Regions.{left-standing, portion-long}
+use Rattle.rules.proofs.Slots.{lay-none}
 use Rattle.rules.specs.Choices.{unless, whether}
 use Rattle.rules.specs.Ends.{clear}
 use Rattle.rules.specs.Joins.{extendWith}
@@ -54,19 +51,6 @@ module _ (b : List ℕ) (r : Rec) (b′ : List ℕ) where
       rw (none-asked, lay-none, length-held, laid, all, made, made-other, at-first)
 
 -- ---- `move_portion`
-
--- what is left of a queue without its first k stands where it stood
-left-standing : (b : List ℕ) (r : Rec) (k : ℕ) → Good (length b) r
-    → lay b (whether (eqb (r .len - k) 0) 0 (place (length b) (r .head) k)) (drop k (held b r)) ≡ b
-unfolding whether held
-left-standing b r k g =
-    let on = place (length b) (r .head) k in
-    ⊎-elim
-    (λ lt. rw (ne-eqb (r .len - k) 0 (λ e. omega arith))
-    (ap (lay b on) (listOf-drop b (r .head) (omega arith) k (r .len) (omega arith) (g .fits))
-    ∙ lay-own b on (r .len - k)))
-    (λ ge. rw (drop-of-length-le (held b r) {i = k} (omega (arith, length-held b r)), lay-none))
-    (lt-or-ge k (r .len))
 
 module _ (b : List ℕ) (r : Rec) (b′ : List ℕ) (r′ : Rec) (n : ℕ) where
   -- refused: the same records, moved 0, and nothing is written

@@ -4,8 +4,8 @@
 // A call that can change the queue answers with its new record. The record from before
 // is stale then: it is still taken, since it is a good one, and nothing warns.
 
-// The record, its place, the answers and the refusals: 1 too many slots, 2 a record that is not
-// good, 3 a position, 4 no room, 5 bytes that are no image. A refused call writes nothing.
+// The record, its place, the answers and the refusals: 1 too many slots, 2 a record that is not good, 3 a position,
+// 4 no room, 5 bytes that are no image, 6 a move into the queue that is open. A refused call writes nothing.
 pub use elements::Found;
 pub use elements::Handed;
 pub use elements::fresh;
@@ -51,6 +51,11 @@ pub use joins::append;
 pub use joins::split_off;
 pub use queue::Joined;
 pub use queue::Split;
+
+// A queue moved into another region, whole or in portions. While more portions are to come, the new queue
+// is marked: every other call of a kind that can change it is refused with 6, and each one that looks is not.
+pub use regions::move_all;
+pub use regions::move_portion;
 
 // Drains and splices. An open drain stands for its queue: it is closed before the queue's next call.
 pub use drains::drain;
