@@ -21,8 +21,8 @@ same-length c = search needs
 
 returns : tie.Need-returns
 returns c =
-    appends _ _ _ (c .before .before .before .before .before .before .before .before .before .deque-in .ensures) _ _ _
-    _ _ (c .before .before .before .before .before .before .before .deque-in2 .ensures) _ _ _ _ _ _
+    appends _ _ _ _ (c .before .before .before .before .before .before .before .before .before .deque-in .ensures)
+    _ _ (c .before .before .before .before .before .before .before .deque-in2 .ensures) _ _ _ _ _ _ _ _
     (c .joined .ensures) (c .before .before .before .append .ensures)
 
 pub scorebucket-append-spec : {M : Type 1} → statement M

@@ -18,7 +18,7 @@ same-length c = search needs
 
 returns : tie.Need-returns
 returns c =
-    splits _ _ _ (c .before .before .before .before .before .before .before .deque-in .ensures) _ _ _ _ _ _ _ _ _ _
+    splits _ _ _ _ _ (c .before .before .before .before .before .before .before .deque-in .ensures) _ _ _ _ _ _ _ _
     (c .split .ensures) (c .before .before .before .split-off .ensures)
 
 pub scorebucket-split-off-spec : {M : Type 1} → statement M

@@ -1,0 +1,2 @@
+-- `Moves`: what an exported move answers.
+pub mod Moves
