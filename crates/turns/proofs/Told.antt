@@ -9,7 +9,8 @@ use Rattle.rules.specs.Looks.{Look}
 use Rattle.rules.specs.Outcome.{Answer, State, Outcome, shut, draining, told}
 use Rattle.rules.specs.Pairs.{PairAnswer, PairOutcome, toldPair, doAppend, doSplit}
 use Rattle.rules.specs.Records.{Rec}
-use Rattle.rules.specs.Sequences.{QueueChange, changing, asking, DrainCall, appending, splitting, comparing, Call, ofQueue, ofDrain, ofBoth, Taken, passedOver, ifShut, ifDraining, takes, StepAnswer, Queue, sideA, sideB, queueOf, pairOf, stands, stillStep, lookStep, oneStep, bothStep, doOnQueue, doOnDrain, queueStep, pairStep, takenStep, firstStep, facing, step, toldStep}
+use Rattle.rules.specs.Regions.{doMove, doPortion}
+use Rattle.rules.specs.Sequences.{QueueChange, changing, asking, DrainCall, appending, splitting, moving, porting, comparing, Call, ofQueue, ofDrain, ofBoth, Taken, passedOver, ifShut, ifDraining, takes, StepAnswer, Queue, sideA, sideB, queueOf, pairOf, stands, stillStep, lookStep, oneStep, bothStep, doOnQueue, doOnDrain, queueStep, pairStep, takenStep, firstStep, facing, step, toldStep}
 use Rattle.answers.specs.Answers.{bothAnswered}
 use Rattle.answers.specs.Sights.{lookTold}
 use Rattle.turns.specs.Answers.{oneAnswered, noneAnswered, lookAnswered, answerFacing, toldFirst}
@@ -85,6 +86,18 @@ module _ (b b′ : List ℕ) (p : StepAnswer) where
         → (p, x, x′) ≡ toldFirst b (shut r) b′ (shut r′) (ofBoth (splitting n))
     unfolding firstStep takes ifShut takenStep pairStep
     split n m x x′ same e = both-told (shut r′) (doSplit b r b′ n) (stands b′ (shut r′)) p m x x′ same e
+
+    pub moved-all : (m : PairAnswer) (x x′ : List ℕ) → p ≡ bothAnswered (shut r′) m
+        → (m, x, x′) ≡ toldPair (doMove b r b′)
+        → (p, x, x′) ≡ toldFirst b (shut r) b′ (shut r′) (ofBoth moving)
+    unfolding firstStep takes ifShut takenStep pairStep
+    moved-all m x x′ same e = both-told (shut r′) (doMove b r b′) (stands b′ (shut r′)) p m x x′ same e
+
+    pub moved-portion : (n : ℕ) (m : PairAnswer) (x x′ : List ℕ) → p ≡ bothAnswered (shut r′) m
+        → (m, x, x′) ≡ toldPair (doPortion b r b′ r′ n)
+        → (p, x, x′) ≡ toldFirst b (shut r) b′ (shut r′) (ofBoth (porting n))
+    unfolding firstStep takes ifShut takenStep pairStep
+    moved-portion n m x x′ same e = both-told (shut r′) (doPortion b r b′ r′ n) [] p m x x′ same e
 
     pub compared : (k : AskBoth) (a : ℕ × Option Sight) → p ≡ lookAnswered a (shut r) (shut r′)
         → a ≡ lookTold (answeredBoth b r b′ r′ k)

@@ -84,6 +84,14 @@ fn on_both(
     match call {
         PairCall::Append => of_joined(joins::append(slots, q, other_slots, other)),
         PairCall::SplitOff(at) => of_split(second, joins::split_off(slots, q, at, other_slots)),
+        PairCall::MoveAll => of_split(second, regions::move_all(slots, q, other_slots)),
+        PairCall::MovePortion(n) => of_joined(regions::move_portion(
+            slots,
+            q,
+            n,
+            other_slots,
+            other,
+        )),
         PairCall::Comparing(one) => of_looked(
             ask_both(slots, q, other_slots, other, one),
             first,

@@ -3,7 +3,7 @@ use mathlib.Core.Path.{ap}
 use Rattle.queue.specs.Drains.{stateOf}
 use Rattle.turns.proofs.Known.{first-known, second-known, pair-call-known}
 use Rattle.turns.proofs.Taken.{both-over, other-over}
-use Rattle.turns.proofs.Told.{over, appended, split, compared}
+use Rattle.turns.proofs.Told.{over, appended, split, moved-all, moved-portion, compared}
 use borrow.Author.Needs.{needs}
 use Rattle.turns.proofs.steps.on_both.Statement.{statement}
 use Rattle.turns.proofs.steps.on_both.Tie as tie
@@ -52,8 +52,26 @@ split-off-requires c κs = search needs
 of-split-requires : tie.Need-of-split-requires
 of-split-requires c κs = search needs
 
+enum-told-4 : tie.Need-enum-told-4
+enum-told-4 c = search needs
+
+move-all-requires : tie.Need-move-all-requires
+move-all-requires c κs = search needs
+
+of-split-requires-2 : tie.Need-of-split-requires-2
+of-split-requires-2 c κs = search needs
+
 enum-known-call-2 : tie.Need-enum-known-call-2
 enum-known-call-2 c = search needs
+
+move-portion-requires : tie.Need-move-portion-requires
+move-portion-requires c κs = search needs
+
+of-joined-requires-2 : tie.Need-of-joined-requires-2
+of-joined-requires-2 c κs = search needs
+
+enum-known-call-3 : tie.Need-enum-known-call-3
+enum-known-call-3 c = search needs
 
 ask-both-requires : tie.Need-ask-both-requires
 ask-both-requires c κs = search needs
@@ -98,9 +116,37 @@ same-length-6 c = search needs
 returns-5 : tie.Need-returns-5
 returns-5 c =
     let m = c .before .before .before .before .before .before in
+    first-known _ _ _ _ _ _ (m .before .before .before .before .before .before .first .given .1) _
+    (second-known _ _ _ _ _ _ (m .before .before .before .second .given .1) _
+    (pair-call-known _ _ _ _ _ _ _ (m .enum-told4 .given .1)
+    (moved-all _ _ _ _ _ _ _ _ (c .of-split2 .ensures) (c .before .before .before .move-all .ensures))))
+
+same-length-7 : tie.Need-same-length-7
+same-length-7 c = search needs
+
+same-length-8 : tie.Need-same-length-8
+same-length-8 c = search needs
+
+returns-6 : tie.Need-returns-6
+returns-6 c =
+    let m = c .before .before .before .before .before .before in
+    first-known _ _ _ _ _ _ (m .before .before .before .before .before .before .before .first .given .1) _
+    (second-known _ _ _ _ _ _ (m .before .before .before .before .second .given .1) _
+    (pair-call-known _ _ _ _ _ _ _ (m .before .call2 .given .1)
+    (moved-portion _ _ _ _ _ _ _ _ _ (c .of-joined2 .ensures _) (c .before .before .before .move-portion .ensures))))
+
+same-length-9 : tie.Need-same-length-9
+same-length-9 c = search needs
+
+same-length-10 : tie.Need-same-length-10
+same-length-10 c = search needs
+
+returns-7 : tie.Need-returns-7
+returns-7 c =
+    let m = c .before .before .before .before .before .before in
     first-known _ _ _ _ _ _ (m .before .before .before .before .before .first .given .1) _
     (second-known _ _ _ _ _ _ (m .before .before .second .given .1) _
-    (pair-call-known _ _ _ _ _ _ _ (c .before .before .before .before .before .call2 .given .1)
+    (pair-call-known _ _ _ _ _ _ _ (c .before .before .before .before .before .call3 .given .1)
     (compared _ _ _ _ _ _ _ (c .of-looked .ensures) (c .before .ask-both .ensures))))
 
 pub on-both-spec : {M : Type 1} → statement M
@@ -121,7 +167,13 @@ on-both-spec =
     enum-known-call
     split-off-requires
     of-split-requires
+    enum-told-4
+    move-all-requires
+    of-split-requires-2
     enum-known-call-2
+    move-portion-requires
+    of-joined-requires-2
+    enum-known-call-3
     ask-both-requires
     of-looked-requires
     same-length
@@ -132,4 +184,10 @@ on-both-spec =
     returns-4
     same-length-5
     same-length-6
-    returns-5)
+    returns-5
+    same-length-7
+    same-length-8
+    returns-6
+    same-length-9
+    same-length-10
+    returns-7)
