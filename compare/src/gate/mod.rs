@@ -1,6 +1,7 @@
-//! The gate's script: every call, every refusal at its edges, records of any numbers, drains, walks and images, on one
-//! pair of capacities, so that the proved program can be run on it and its output be held against a stored one.
+//! The gate's script: every call, every refusal at its edges, records of any numbers, drains, walks, images and moves,
+//! on one pair of capacities, so that the proved program can be run on it and its output be held against a stored one.
 
+mod moves;
 mod records;
 
 use crate::calls::{Call, Test};
@@ -37,6 +38,9 @@ pub fn script() -> Script {
     records::drains(&mut gate);
     records::walks(&mut gate);
     records::images(&mut gate);
+    moves::marked(&mut gate);
+    moves::single_moves(&mut gate);
+    moves::carried_on(&mut gate);
     gate.then(sequence(1, CAPS, Values::New, 500));
     gate.then(sequence(2, CAPS, Values::Few, 500));
     gate.script()
