@@ -2,19 +2,12 @@
 //! last; positions and ranges around the wrap and the end.
 
 use crate::calls::{Call, Drain, Test};
-use crate::exhaustive::{Visit, new_values, planted};
+use crate::exhaustive::{Visit, in_order, new_values, planted};
 use crate::world::{Queue, World};
 
 /// The numbers around an edge.
 fn around(edge: usize) -> [usize; 3] {
     [edge.wrapping_sub(1), edge, edge + 1]
-}
-
-/// In order, each once.
-fn in_order(mut numbers: Vec<usize>) -> Vec<usize> {
-    numbers.sort_unstable();
-    numbers.dedup();
-    numbers
 }
 
 /// Every state and call at the edges of capacity cap, which is at least 1.

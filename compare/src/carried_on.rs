@@ -2,6 +2,7 @@
 //! refused calls between them, beside the whole move; then the other way round.
 
 use crate::calls::Call;
+use crate::exhaustive::in_order;
 use crate::script::Script;
 use crate::stream::Stream;
 use crate::world::World;
@@ -21,13 +22,6 @@ const CAPS: [[usize; 2]; 12] = [
     [8_000, 16_000],
     [16_000, 16_000],
 ];
-
-/// Numbers in order, each once.
-fn in_order(mut numbers: Vec<usize>) -> Vec<usize> {
-    numbers.sort_unstable();
-    numbers.dedup();
-    numbers
-}
 
 /// One script for each pair of capacities.
 pub fn scripts() -> Vec<Script> {

@@ -52,6 +52,13 @@ pub fn positions(cap: usize) -> Vec<usize> {
     (0..=cap + 1).chain([BIG - 1, BIG]).collect()
 }
 
+/// Numbers in order, each once.
+pub fn in_order(mut numbers: Vec<usize>) -> Vec<usize> {
+    numbers.sort_unstable();
+    numbers.dedup();
+    numbers
+}
+
 /// New values 100, 101, ..
 pub fn new_values(n: usize) -> Vec<u32> {
     (100..100 + n as u32).collect()

@@ -5,7 +5,7 @@ mod moves;
 mod records;
 
 use crate::calls::{Call, Test};
-use crate::exhaustive::{self, new_values, one_of_each, planted};
+use crate::exhaustive::{self, in_order, new_values, one_of_each, planted};
 use crate::model;
 use crate::random::{Values, sequence};
 use crate::script::Script;
@@ -85,13 +85,6 @@ fn searches(gate: &mut Stream) {
             (1..4).for_each(|k| gate.put(&world, 0, &Call::PartitionPoint(Test::Below(k))));
         }
     }
-}
-
-/// Numbers in order, each once.
-fn in_order(mut numbers: Vec<usize>) -> Vec<usize> {
-    numbers.sort_unstable();
-    numbers.dedup();
-    numbers
 }
 
 /// The calls that take no range, with operands on both sides of each edge.

@@ -1,8 +1,8 @@
 //! The gate's open marks and moves into another region.
 
-use super::{BIG, CAPS, in_order};
+use super::{BIG, CAPS};
 use crate::calls::{Call, Test};
-use crate::exhaustive::{both_calls, new_values, one_of_each, planted};
+use crate::exhaustive::{both_calls, in_order, new_values, one_of_each, planted};
 use crate::stream::Stream;
 
 /// Calls that a queue of len elements refuses with 3 or 4, answers with Nothing, or is left by as it is: the mark comes

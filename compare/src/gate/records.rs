@@ -1,8 +1,8 @@
 //! The gate's records set by hand, its drains and walks, and its images.
 
-use super::{BIG, CAPS, RECORDS, in_order};
+use super::{BIG, CAPS, RECORDS};
 use crate::calls::{Call, Drain, Walk};
-use crate::exhaustive::{bad, both_calls, broken_images, new_values, one_of_each, planted};
+use crate::exhaustive::{bad, both_calls, broken_images, in_order, new_values, one_of_each, planted};
 use crate::model;
 use crate::stream::Stream;
 
