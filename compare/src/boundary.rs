@@ -2,19 +2,12 @@
 //! last; positions and ranges around the wrap and the end.
 
 use crate::calls::{Call, Drain, Test};
-use crate::exhaustive::{Visit, new_values, planted};
-use crate::world::World;
+use crate::exhaustive::{Visit, in_order, new_values, planted};
+use crate::world::{Queue, World};
 
 /// The numbers around an edge.
 fn around(edge: usize) -> [usize; 3] {
     [edge.wrapping_sub(1), edge, edge + 1]
-}
-
-/// In order, each once.
-fn in_order(mut numbers: Vec<usize>) -> Vec<usize> {
-    numbers.sort_unstable();
-    numbers.dedup();
-    numbers
 }
 
 /// Every state and call at the edges of capacity cap, which is at least 1.
@@ -26,6 +19,7 @@ pub fn each(cap: usize, visit: &mut Visit) {
             let wrap = (cap - head).min(len);
             calls(cap, len, wrap, &mut |call| visit(&world, 0, call));
             drains(head, len, wrap, &world, visit);
+            moves(len, wrap, &world, visit);
         }
     }
 }
@@ -44,6 +38,19 @@ fn drains(head: usize, len: usize, wrap: usize, world: &World, visit: &mut Visit
                     Some(Drain { head, start, drain_len, idx: start + front, tail_len: len - end, remaining });
                 [Call::DrainNext, Call::DrainNextBack, Call::DrainClose].iter().for_each(|c| visit(&world, 0, c));
             }
+        }
+    }
+}
+
+/// Both forms of the move into as many slots: from head 0 on, across their end, and where one slot is free.
+fn moves(len: usize, wrap: usize, world: &World, visit: &mut Visit) {
+    let cap = world.0[0].cap();
+    for (head, held) in [(0, 0), (cap - 1, 1), (cap / 2, cap / 2), (cap / 2, cap - 1)] {
+        let other = Queue { head, len: held, ..Queue::new(cap, 50_000) };
+        let world = World([world.0[0].clone(), other]);
+        visit(&world, 0, &Call::MoveAll);
+        for n in in_order([around(0), around(wrap), around(len), around(cap - held)].concat()) {
+            visit(&world, 0, &Call::MovePortion(n));
         }
     }
 }

@@ -42,6 +42,7 @@ pub struct Drain {
 pub struct Walk {
     pub head: usize,
     pub len: usize,
+    pub mark: bool,
     pub low: usize,
     pub high: usize,
 }
@@ -92,15 +93,17 @@ pub enum Call {
     WalkNextBack,
     ImageRead(Vec<u8>),
     ImageWrite(usize),
-    SetRecord(usize, usize),
+    MoveAll,
+    MovePortion(usize),
+    SetRecord(usize, usize, bool),
     SetDrain(Drain),
     SetWalk(Walk),
     Plant(usize, usize),
     Forget,
 }
 
-/// The names of calls 0 to 42, by number.
-pub const NAMES: [&str; 43] = [
+/// The names of calls 0 to 44, by number.
+pub const NAMES: [&str; 45] = [
     "fresh",
     "push_back",
     "push_front",
@@ -144,6 +147,8 @@ pub const NAMES: [&str; 43] = [
     "walk next_back",
     "image read",
     "image write",
+    "whole move",
+    "portion",
 ];
 
 impl Call {
@@ -160,6 +165,14 @@ impl Call {
                 | Call::Insert(..)
                 | Call::Splice(..)
                 | Call::ImageRead(_)
+        )
+    }
+
+    /// Whether the call is on both queues.
+    pub fn on_both(&self) -> bool {
+        matches!(
+            self,
+            Call::Append | Call::SplitOff(_) | Call::Equal | Call::Compare | Call::MoveAll | Call::MovePortion(_)
         )
     }
 

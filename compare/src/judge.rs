@@ -25,6 +25,8 @@ pub enum Kind {
     Grows,
     /// Refusal 4 of split_off; the Rust makes a buffer of its own.
     OwnRoom,
+    /// Refusal 6; the Rust has no mark, and does the call or fails in its own way.
+    Open,
     /// The Rust has no such call.
     NoCounterpart,
     /// The Rust was not asked.
@@ -58,7 +60,11 @@ pub fn judge<E: Engine>(rust: &mut Rust<E>, called: &Called) -> (Kind, Heard) {
         Call::FrontRun(..) | Call::BackRun(..) => model::refusal(called.before, called.q, called.call),
         _ => called.outcome.refusal,
     };
+    let open = known::move_open(called.before, called.q, called.call);
     let kind = match (refusal, &heard) {
+        (1.., _) if called.after != *called.before => Kind::Wrong(format!("refused, and left {}", called.after)),
+        (6, _) if open => Kind::Open,
+        (number, _) if open || number == 6 => Kind::Wrong(format!("refusal {number} here; a move is open: {open}")),
         (_, Heard::NoCounterpart) => Kind::NoCounterpart,
         (_, Heard::NotAsked) => Kind::NotAsked,
         (1, _) => Kind::Limit,

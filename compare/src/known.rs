@@ -1,9 +1,12 @@
-//! The differences between document 01 and the Rust where both accept a call: when each occurs, as a test of the input.
+//! The differences between document 01 and the Rust where both accept a call, and where ours alone refuses it since a
+//! move is open: when each occurs, as a test of the input.
 
 use crate::calls::Call;
 use crate::model;
-use crate::world::Queue;
+use crate::numbers;
+use crate::world::{Queue, World};
 use std::cmp::Ordering;
+use std::ops::RangeInclusive;
 
 /// What a difference shows in.
 #[derive(Clone, Copy, Debug, PartialEq, Eq)]
@@ -73,6 +76,26 @@ pub fn which(queue: &Queue, call: &Call) -> Option<&'static Known> {
     let of_this_call: Vec<&Known> = KNOWN.iter().filter(|k| k.call == call.name()).collect();
     let list = if of_this_call.is_empty() { vec![] } else { model::list(queue) };
     of_this_call.into_iter().find(|k| (k.holds)(queue, &list, call))
+}
+
+/// The numbers of the calls that can change the list or the record of the queue called on, and take that record.
+const CHANGES: [RangeInclusive<usize>; 4] = [
+    numbers::PUSH_BACK..=numbers::POP_BACK_IF,
+    numbers::TRUNCATE..=numbers::RETAIN,
+    numbers::SPLICE..=numbers::DRAIN_OPEN,
+    numbers::MOVE_ALL..=numbers::MOVE_PORTION,
+];
+
+/// Whether a call is refused with 6: it can change the queue called on, and that one's mark stands; or it is append,
+/// which changes the other, too, and the other's stands. Refusals 1 and 2 come first.
+pub fn move_open(world: &World, q: usize, call: &Call) -> bool {
+    let (mine, other) = (&world.0[q], &world.0[1 - q]);
+    if !mine.mark && !other.mark {
+        return false;
+    }
+    let good = |q: &Queue| q.cap() <= model::LIMIT && model::good_record(q.cap(), q.head, q.len);
+    let changes = CHANGES.iter().any(|numbers| numbers.contains(&call.words().0));
+    changes && good(mine) && (mine.mark || (matches!(call, Call::Append) && good(other)))
 }
 
 /// The kept elements aren't the first ones of the list, so that the Rust swaps rejected ones to its end.

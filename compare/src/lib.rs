@@ -5,6 +5,7 @@
 pub mod boundary;
 pub mod bundle;
 pub mod calls;
+pub mod carried_on;
 pub mod differences;
 pub mod exhaustive;
 pub mod gate;

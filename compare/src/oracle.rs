@@ -42,12 +42,11 @@ pub fn tell(text: &str) -> Told {
 
 /// Whether the call breaks the scripts' rule: while a queue's drain is open no other call is made on it.
 fn on_open_drain(world: &World, q: usize, call: &Call) -> bool {
-    let on_both = matches!(call, Call::Append | Call::SplitOff(_) | Call::Equal | Call::Compare);
     let of_the_drain = matches!(
         call,
         Call::DrainNext | Call::DrainNextBack | Call::DrainClose | Call::SetDrain(_) | Call::Plant(..) | Call::Forget
     );
-    (world.0[q].drain.is_some() && !of_the_drain) || (world.0[1 - q].drain.is_some() && on_both)
+    (world.0[q].drain.is_some() && !of_the_drain) || (world.0[1 - q].drain.is_some() && call.on_both())
 }
 
 /// The Rust's own answer and state where it agrees in everything, else ours; moved is always ours.
@@ -71,6 +70,7 @@ fn source(kind: &Kind, call: &Call) -> String {
         Kind::Panics => "ours: refusal 3, the Rust panics".into(),
         Kind::Grows => "ours: refusal 4, the Rust grows".into(),
         Kind::OwnRoom => "ours: refusal 4, the Rust makes a buffer of its own".into(),
+        Kind::Open => "ours: refusal 6, the Rust has no open mark".into(),
         Kind::NoCounterpart if call.words().0 >= numbers::SET_RECORD => "-".into(),
         Kind::NoCounterpart => "ours: the Rust has no such call".into(),
         Kind::NotAsked => "ours: the Rust was not asked".into(),

@@ -61,12 +61,18 @@ impl Maker {
         {
             return self.record(q);
         }
+        if self.world.0[q].mark && self.rng.once_in(4) {
+            return self.without_mark(q);
+        }
+        if self.world.0[1 - q].mark && self.rng.once_in(3) {
+            return Call::MovePortion(self.portion(q));
+        }
         match self.rng.below(100) {
-            0..=44 => self.change(q),
-            45..=59 => self.fill(q),
-            60..=69 => self.ask(q),
-            70..=79 => self.with_range(q),
-            80..=86 => self.with_both(q),
+            0..=43 => self.change(q),
+            44..=57 => self.fill(q),
+            58..=66 => self.ask(q),
+            67..=76 => self.with_range(q),
+            77..=86 => self.with_both(q),
             87..=91 => self.walk(q),
             92..=94 => self.image(q),
             95..=97 => self.record(q),
@@ -191,12 +197,28 @@ impl Maker {
         if self.world.0[1 - q].drain.is_some() {
             return self.change(q);
         }
-        match self.rng.below(4) {
+        match self.rng.below(7) {
             0 => Call::Append,
             1 => Call::SplitOff(self.position(q)),
             2 => Call::Equal,
-            _ => Call::Compare,
+            3 => Call::Compare,
+            4 => Call::MoveAll,
+            _ => Call::MovePortion(self.portion(q)),
         }
+    }
+
+    /// How many to move out of queue q: a number at its edges, or as many as the other has room for, or one more.
+    fn portion(&mut self, q: usize) -> usize {
+        let other = &self.world.0[1 - q];
+        let room = other.cap().saturating_sub(other.len);
+        let at_an_edge = self.position(q);
+        self.rng.pick(&[at_an_edge, at_an_edge, room, room + 1])
+    }
+
+    /// A way out for a marked queue whose move may never be ended: it is made anew, or its mark taken by hand.
+    fn without_mark(&mut self, q: usize) -> Call {
+        let Queue { head, len, .. } = self.world.0[q];
+        if self.rng.once_in(3) { Call::Fresh } else { Call::SetRecord(head, len, false) }
     }
 
     /// Walks, now and then with ends set by hand.
@@ -204,8 +226,8 @@ impl Maker {
         match self.rng.below(8) {
             0 => Call::WalkBegin,
             1 => {
-                let (head, len) = (self.world.0[q].head, self.world.0[q].len);
-                Call::SetWalk(Walk { head, len, low: self.position(q), high: self.position(q) })
+                let Queue { head, len, mark, .. } = self.world.0[q];
+                Call::SetWalk(Walk { head, len, mark, low: self.position(q), high: self.position(q) })
             }
             2..=5 => Call::WalkNext,
             _ => Call::WalkNextBack,
@@ -229,7 +251,8 @@ impl Maker {
     fn record(&mut self, q: usize) -> Call {
         let cap = self.world.0[q].cap();
         if self.rng.once_in(20) {
-            return Call::SetRecord(self.rng.pick(&[cap, usize::MAX, 0]), self.rng.pick(&[cap + 1, usize::MAX, 1]));
+            let (head, len) = (self.rng.pick(&[cap, usize::MAX, 0]), self.rng.pick(&[cap + 1, usize::MAX, 1]));
+            return Call::SetRecord(head, len, self.rng.once_in(2));
         }
         let head = self.rng.pick(&[0, cap.saturating_sub(1), cap / 2]);
         let any = self.rng.below(cap + 1);
@@ -240,7 +263,7 @@ impl Maker {
             let drain_len = self.rng.below(cap + 1 - start);
             return Call::SetDrain(Drain { head, start, drain_len, idx, tail_len: cap - start - drain_len, remaining });
         }
-        Call::SetRecord(head, len)
+        Call::SetRecord(head, len, self.rng.once_in(3))
     }
 
     /// Calls that may take many elements.

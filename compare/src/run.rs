@@ -1,6 +1,7 @@
 //! Runs the proved programs on every script and journal and holds what they write against what is expected.
 
 use crate::calls::Call;
+use crate::carried_on;
 use crate::differences::SEQUENCES;
 use crate::exhaustive::one_of_each;
 use crate::gate;
@@ -30,7 +31,8 @@ pub fn small_scripts() -> Vec<Named> {
     exhaustive_scripts(5).iter().map(|s| Named { name: name(s), text: s.text() }).collect()
 }
 
-/// The random sequences, each call on more than 16,000 slots, the largest image, and scripts that break off.
+/// The random sequences, the moves that are carried on, each call on more than 16,000 slots, the largest image, and
+/// scripts that break off.
 pub fn random_scripts() -> Vec<Named> {
     let mut all = vec![];
     for (seed, (caps, n)) in SEQUENCES.into_iter().enumerate() {
@@ -39,6 +41,8 @@ pub fn random_scripts() -> Vec<Named> {
             all.push(Named { name, text: sequence(seed as u64, caps, values, n / 4).text() });
         }
     }
+    let name = |s: &Script| format!("moves-{}-{}", s.caps[0], s.caps[1]);
+    all.extend(carried_on::scripts().iter().map(|s| Named { name: name(s), text: s.text() }));
     for caps in [[16_001, 2], [2, 16_001], [16_002, 16_002], [16_000, 16_000]] {
         let lines = (0..2).flat_map(|q| one_of_each().into_iter().map(move |c| (q, c))).collect();
         all.push(Named { name: format!("limit-{}-{}", caps[0], caps[1]), text: Script { caps, lines }.text() });
@@ -53,8 +57,15 @@ pub fn random_scripts() -> Vec<Named> {
 fn broken_scripts() -> Vec<Named> {
     let long = format!("0 13 2000{}", " 1".repeat(2_000));
     let lines = [
-        "0 43",
+        "0 45",
         "0 89",
+        "0 43 1",
+        "0 44",
+        "0 44 1 1",
+        "0 90 1 2",
+        "0 90 1 2 2",
+        "0 92 1 2 0 1",
+        "0 92 1 2 2 0 1",
         "0 95",
         "2 3",
         "0",

@@ -19,10 +19,20 @@ fn without_walk(queue: &Queue) -> Queue {
     Queue { walk: None, ..queue.clone() }
 }
 
+/// Whether the slots of both queues hold the same.
+fn same_slots(one: &World, other: &World) -> bool {
+    (0..2).all(|q| one.0[q].slots == other.0[q].slots)
+}
+
 impl Stream {
     /// A script that has only its first line.
     pub fn new(caps: [usize; 2]) -> Stream {
         Stream { caps, now: World::new(caps), lines: vec![] }
+    }
+
+    /// The state behind the last line.
+    pub fn now(&self) -> &World {
+        &self.now
     }
 
     /// The whole script.
@@ -58,13 +68,13 @@ impl Stream {
         if there {
             return;
         }
-        let [a, b] = &world.0;
-        let bare = World([Queue { drain: None, ..without_walk(a) }, b.clone()]);
-        if bare == planted(a.cap(), a.head, a.len) {
+        let a = &world.0[0];
+        let bare = World(world.0.each_ref().map(|queue| Queue { drain: None, ..without_walk(queue) }));
+        let plain = planted(a.cap(), a.head, a.len);
+        if bare == plain || (same_slots(&bare, &plain) && !same_slots(&bare, &self.now)) {
             self.go(0, &Call::Plant(a.head, a.len));
-        } else {
-            (0..2).for_each(|q| self.set_queue(q, &world.0[q]));
         }
+        (0..2).for_each(|q| self.set_queue(q, &bare.0[q]));
         for (q, queue) in world.0.iter().enumerate() {
             if let Some(d) = queue.drain {
                 self.go(q, &Call::SetDrain(d));
@@ -83,8 +93,9 @@ impl Stream {
         if self.now.0[q].slots != wanted.slots {
             self.go(q, &Call::Extend(wanted.slots.clone()));
         }
-        if (self.now.0[q].head, self.now.0[q].len) != (wanted.head, wanted.len) {
-            self.go(q, &Call::SetRecord(wanted.head, wanted.len));
+        let record = |queue: &Queue| (queue.head, queue.len, queue.mark);
+        if record(&self.now.0[q]) != record(wanted) {
+            self.go(q, &Call::SetRecord(wanted.head, wanted.len, wanted.mark));
         }
     }
 }

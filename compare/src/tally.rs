@@ -7,8 +7,8 @@ use crate::rust::Heard;
 use std::collections::BTreeMap;
 
 /// The columns of the table.
-const COLUMNS: [&str; 9] =
-    ["agree", "differ", "limit", "no state", "panics", "grows", "own room", "no call", "unasked"];
+const COLUMNS: [&str; 10] =
+    ["agree", "differ", "limit", "no state", "panics", "grows", "own room", "open", "no call", "unasked"];
 
 /// A known difference as it was seen: how often, and its smallest input with both outcomes.
 struct Seen {
@@ -51,8 +51,9 @@ impl Tally {
             Kind::Panics => 4,
             Kind::Grows => 5,
             Kind::OwnRoom => 6,
-            Kind::NoCounterpart => 7,
-            Kind::NotAsked => 8,
+            Kind::Open => 7,
+            Kind::NoCounterpart => 8,
+            Kind::NotAsked => 9,
             Kind::Wrong(what) => return self.enter_wrong(called, what),
         };
         if number < NAMES.len() {

@@ -69,11 +69,13 @@ impl Call {
             Call::WalkNextBack => (numbers::WALK_NEXT_BACK, vec![]),
             Call::ImageRead(bytes) => (numbers::IMAGE_READ, list_words(bytes)),
             Call::ImageWrite(n) => (numbers::IMAGE_WRITE, vec![*n]),
-            Call::SetRecord(h, n) => (numbers::SET_RECORD, vec![*h, *n]),
+            Call::MoveAll => (numbers::MOVE_ALL, vec![]),
+            Call::MovePortion(n) => (numbers::MOVE_PORTION, vec![*n]),
+            Call::SetRecord(h, n, mark) => (numbers::SET_RECORD, vec![*h, *n, usize::from(*mark)]),
             Call::SetDrain(d) => {
                 (numbers::SET_DRAIN, vec![d.head, d.start, d.drain_len, d.idx, d.tail_len, d.remaining])
             }
-            Call::SetWalk(w) => (numbers::SET_WALK, vec![w.head, w.len, w.low, w.high]),
+            Call::SetWalk(w) => (numbers::SET_WALK, vec![w.head, w.len, usize::from(w.mark), w.low, w.high]),
             Call::Plant(h, n) => (numbers::PLANT, vec![*h, *n]),
             Call::Forget => (numbers::FORGET, vec![]),
         }
@@ -126,7 +128,9 @@ impl Call {
             numbers::WALK_NEXT_BACK => Call::WalkNextBack,
             numbers::IMAGE_READ => Call::ImageRead(at.list()?),
             numbers::IMAGE_WRITE => Call::ImageWrite(at.number()?),
-            numbers::SET_RECORD => Call::SetRecord(at.number()?, at.number()?),
+            numbers::MOVE_ALL => Call::MoveAll,
+            numbers::MOVE_PORTION => Call::MovePortion(at.number()?),
+            numbers::SET_RECORD => Call::SetRecord(at.number()?, at.number()?, at.mark()?),
             numbers::SET_DRAIN => Call::SetDrain(at.drain()?),
             numbers::SET_WALK => Call::SetWalk(at.walk()?),
             numbers::PLANT => Call::Plant(at.number()?, at.number()?),
@@ -153,6 +157,11 @@ impl Operands<'_> {
         self.number()?.try_into().ok()
     }
 
+    /// The next number, as an open mark: 0 or 1.
+    fn mark(&mut self) -> Option<bool> {
+        self.number().filter(|&n| n <= 1).map(|n| n == 1)
+    }
+
     /// The next two words, as a test.
     fn test(&mut self) -> Option<Test> {
         let kind = self.number()?;
@@ -173,9 +182,9 @@ impl Operands<'_> {
         Some(Drain { head: n()?, start: n()?, drain_len: n()?, idx: n()?, tail_len: n()?, remaining: n()? })
     }
 
-    /// The four numbers of a walk.
+    /// The five words of a walk: its record and its two ends.
     fn walk(&mut self) -> Option<Walk> {
-        let mut n = || self.number();
-        Some(Walk { head: n()?, len: n()?, low: n()?, high: n()? })
+        let (head, len, mark) = (self.number()?, self.number()?, self.mark()?);
+        Some(Walk { head, len, mark, low: self.number()?, high: self.number()? })
     }
 }

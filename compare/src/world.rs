@@ -4,12 +4,14 @@ use crate::calls::{Call, Drain, Walk};
 use std::cmp::Ordering;
 use std::fmt;
 
-/// One queue: its lent slots, its record, and its open drain and walk if it has them.
+/// One queue: its lent slots, its record with the open mark, and its open drain and walk if it has them. While a drain
+/// is open there is no mark.
 #[derive(Clone, Debug, PartialEq, Eq)]
 pub struct Queue {
     pub slots: Vec<u32>,
     pub head: usize,
     pub len: usize,
+    pub mark: bool,
     pub drain: Option<Drain>,
     pub walk: Option<Walk>,
 }
@@ -17,7 +19,7 @@ pub struct Queue {
 impl Queue {
     /// A fresh queue over slots that hold first, first + 1 and so on.
     pub fn new(cap: usize, first: u32) -> Queue {
-        Queue { slots: (first..first + cap as u32).collect(), head: 0, len: 0, drain: None, walk: None }
+        Queue { slots: (first..first + cap as u32).collect(), head: 0, len: 0, mark: false, drain: None, walk: None }
     }
 
     /// The number of slots.
@@ -119,7 +121,7 @@ impl fmt::Display for Queue {
                 write!(f, "d")?;
                 spaced(f, &[d.head, d.start, d.drain_len, d.idx, d.tail_len, d.remaining])?;
             }
-            None => write!(f, "{} {}", self.head, self.len)?,
+            None => write!(f, "{} {} o{}", self.head, self.len, u8::from(self.mark))?,
         }
         if let Some(w) = self.walk {
             write!(f, " w {} {}", w.low, w.high)?;

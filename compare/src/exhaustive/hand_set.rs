@@ -38,8 +38,8 @@ pub fn drains(cap: usize, visit: &mut Visit) {
     }
 }
 
-/// Every walk whose numbers are at most one too large, good and bad, and some huge ones.
-pub fn walks(cap: usize, visit: &mut Visit) {
+/// Every walk whose numbers are at most one too large, good and bad, and some huge ones; its record has this mark.
+pub fn walks(cap: usize, mark: bool, visit: &mut Visit) {
     let mut step_both = |w: Walk| {
         let mut world = planted(cap, 0, 0);
         world.0[0].walk = Some(w);
@@ -48,16 +48,17 @@ pub fn walks(cap: usize, visit: &mut Visit) {
     for head in 0..=cap {
         for len in 0..=cap + 1 {
             for high in 0..=len + 1 {
-                (0..=high + 1).for_each(|low| step_both(Walk { head, len, low, high }));
+                (0..=high + 1).for_each(|low| step_both(Walk { head, len, mark, low, high }));
             }
         }
     }
     for n in [BIG, BIG - 1] {
-        step_both(Walk { head: n, len: 0, low: 0, high: 0 });
-        step_both(Walk { head: 0, len: n, low: 0, high: 0 });
-        step_both(Walk { head: 0, len: cap, low: n, high: n });
-        step_both(Walk { head: 0, len: cap, low: 0, high: n });
-        step_both(Walk { head: 0, len: n, low: 0, high: n });
+        let whole = Walk { head: 0, len: cap, mark, low: 0, high: 0 };
+        step_both(Walk { head: n, len: 0, ..whole });
+        step_both(Walk { len: n, ..whole });
+        step_both(Walk { low: n, high: n, ..whole });
+        step_both(Walk { high: n, ..whole });
+        step_both(Walk { len: n, high: n, ..whole });
     }
     let world = planted(cap, 0, 0);
     [Call::WalkNext, Call::WalkNextBack].iter().for_each(|c| visit(&world, 0, c));
@@ -96,6 +97,8 @@ pub fn one_of_each() -> Vec<Call> {
         Call::SwapRemoveBack(0),
         Call::Append,
         Call::SplitOff(0),
+        Call::MoveAll,
+        Call::MovePortion(1),
         Call::Retain(t),
         Call::Contains(10),
         Call::Equal,
@@ -114,11 +117,17 @@ pub fn one_of_each() -> Vec<Call> {
     ]
 }
 
-/// Every call on a bad record, and the calls on two queues beside one.
-pub fn bad_records(cap: usize, visit: &mut Visit) {
+/// The calls on two queues, each with operands that good records accept.
+pub fn both_calls() -> Vec<Call> {
+    one_of_each().into_iter().filter(Call::on_both).collect()
+}
+
+/// Every call on a bad record, and the calls on two queues beside one; the two records have these marks.
+pub fn bad_records(cap: usize, marks: [bool; 2], visit: &mut Visit) {
     for (head, len) in bad(cap) {
-        let world = planted(cap, head, len);
+        let mut world = planted(cap, head, len);
+        [world.0[0].mark, world.0[1].mark] = marks;
         one_of_each().iter().for_each(|c| visit(&world, 0, c));
-        [Call::Append, Call::SplitOff(0), Call::Equal, Call::Compare].iter().for_each(|c| visit(&world, 1, c));
+        both_calls().iter().for_each(|c| visit(&world, 1, c));
     }
 }

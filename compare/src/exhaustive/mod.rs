@@ -1,8 +1,9 @@
 //! Every state and every call of the small capacities.
 
 mod hand_set;
+mod moves;
 
-pub use hand_set::{bad, one_of_each};
+pub use hand_set::{bad, both_calls, one_of_each};
 
 use crate::calls::{Call, Test};
 use crate::model;
@@ -36,17 +37,26 @@ pub fn each(cap: usize, visit: &mut Visit) {
         valued(cap, head, len, visit);
     }
     hand_set::drains(cap, visit);
-    hand_set::walks(cap, visit);
-    hand_set::bad_records(cap, visit);
+    hand_set::walks(cap, false, visit);
+    hand_set::bad_records(cap, [false; 2], visit);
     images(cap, visit);
+    moves::marked(cap, visit);
     for other in 0..=cap {
         pairs(cap, other, visit);
+        moves::pairs(cap, other, visit);
     }
 }
 
 /// Positions on both sides of every edge.
 pub fn positions(cap: usize) -> Vec<usize> {
     (0..=cap + 1).chain([BIG - 1, BIG]).collect()
+}
+
+/// Numbers in order, each once.
+pub fn in_order(mut numbers: Vec<usize>) -> Vec<usize> {
+    numbers.sort_unstable();
+    numbers.dedup();
+    numbers
 }
 
 /// New values 100, 101, ..
@@ -188,12 +198,18 @@ pub fn broken_images(list: &[u32]) -> Vec<Vec<u8>> {
     all
 }
 
+/// The state with these records over slots that hold 10, 11, .. and 50, 51, ..
+fn two(cap: usize, a: (usize, usize), other: usize, b: (usize, usize)) -> World {
+    let mut world = World([Queue::new(cap, 10), Queue::new(other, 50)]);
+    (world.0[0].head, world.0[0].len) = a;
+    (world.0[1].head, world.0[1].len) = b;
+    world
+}
+
 /// The calls on two queues in every pair of records; the lists also equal, or one the beginning of the other.
 fn pairs(cap: usize, other: usize, visit: &mut Visit) {
     for (a, b) in records(cap).flat_map(|a| records(other).map(move |b| (a, b))) {
-        let mut world = World([Queue::new(cap, 10), Queue::new(other, 50)]);
-        (world.0[0].head, world.0[0].len) = a;
-        (world.0[1].head, world.0[1].len) = b;
+        let mut world = two(cap, a, other, b);
         for q in 0..2 {
             let len = world.0[q].len;
             visit(&world, q, &Call::Append);

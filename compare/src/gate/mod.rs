@@ -1,10 +1,11 @@
-//! The gate's script: every call, every refusal at its edges, records of any numbers, drains, walks and images, on one
-//! pair of capacities, so that the proved program can be run on it and its output be held against a stored one.
+//! The gate's script: every call, every refusal at its edges, records of any numbers, drains, walks, images and moves,
+//! on one pair of capacities, so that the proved program can be run on it and its output be held against a stored one.
 
+mod moves;
 mod records;
 
 use crate::calls::{Call, Test};
-use crate::exhaustive::{self, new_values, one_of_each, planted};
+use crate::exhaustive::{self, in_order, new_values, one_of_each, planted};
 use crate::model;
 use crate::random::{Values, sequence};
 use crate::script::Script;
@@ -37,6 +38,9 @@ pub fn script() -> Script {
     records::drains(&mut gate);
     records::walks(&mut gate);
     records::images(&mut gate);
+    moves::marked(&mut gate);
+    moves::single_moves(&mut gate);
+    moves::carried_on(&mut gate);
     gate.then(sequence(1, CAPS, Values::New, 500));
     gate.then(sequence(2, CAPS, Values::Few, 500));
     gate.script()
@@ -81,13 +85,6 @@ fn searches(gate: &mut Stream) {
             (1..4).for_each(|k| gate.put(&world, 0, &Call::PartitionPoint(Test::Below(k))));
         }
     }
-}
-
-/// Numbers in order, each once.
-fn in_order(mut numbers: Vec<usize>) -> Vec<usize> {
-    numbers.sort_unstable();
-    numbers.dedup();
-    numbers
 }
 
 /// The calls that take no range, with operands on both sides of each edge.

@@ -1,8 +1,8 @@
 //! The gate's records set by hand, its drains and walks, and its images.
 
-use super::{BIG, CAPS, RECORDS, in_order};
+use super::{BIG, CAPS, RECORDS};
 use crate::calls::{Call, Drain, Walk};
-use crate::exhaustive::{bad, broken_images, new_values, one_of_each, planted};
+use crate::exhaustive::{bad, both_calls, broken_images, in_order, new_values, one_of_each, planted};
 use crate::model;
 use crate::stream::Stream;
 
@@ -11,9 +11,8 @@ pub fn bad_records(gate: &mut Stream) {
     for (head, len) in bad(CAPS[0]) {
         let world = planted(CAPS[0], head, len);
         one_of_each().iter().for_each(|c| gate.put(&world, 0, c));
-        [Call::Append, Call::SplitOff(0), Call::SplitOff(3), Call::Equal, Call::Compare]
-            .iter()
-            .for_each(|c| gate.put(&world, 1, c));
+        both_calls().iter().for_each(|c| gate.put(&world, 1, c));
+        gate.put(&world, 1, &Call::SplitOff(3));
     }
 }
 
@@ -73,8 +72,8 @@ pub fn walks(gate: &mut Stream) {
     gate.go(1, &Call::DrainOpen(0, 1));
     gate.go(1, &Call::DrainNext);
     gate.go(1, &Call::DrainClose);
-    let good = Walk { head: 6, len: 5, low: 1, high: 4 };
-    let mut all = vec![good, Walk { low: 4, ..good }, Walk { low: 0, high: 5, ..good }];
+    let good = Walk { head: 6, len: 5, mark: false, low: 1, high: 4 };
+    let mut all = vec![good, Walk { mark: true, ..good }, Walk { low: 4, ..good }, Walk { low: 0, high: 5, ..good }];
     all.extend([8, BIG].map(|head| Walk { head, ..good }));
     all.extend([3, 9, BIG].map(|len| Walk { len, ..good }));
     all.extend([5, BIG].map(|low| Walk { low, ..good }));
@@ -85,7 +84,7 @@ pub fn walks(gate: &mut Stream) {
         [Call::WalkNext, Call::WalkNextBack].iter().for_each(|c| gate.put(&world, 0, c));
     }
     // A begin that is refused leaves the walk as it was.
-    gate.go(0, &Call::SetRecord(8, 0));
+    gate.go(0, &Call::SetRecord(8, 0, false));
     gate.go(0, &Call::WalkBegin);
     gate.go(0, &Call::WalkNext);
 }

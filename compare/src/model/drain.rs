@@ -1,7 +1,7 @@
 //! A drain: a record by value that hands elements over, and an explicit close.
 
 use super::places::{place, range_fits, stretch};
-use super::{Verdict, check, lay, slots_fit};
+use super::{Verdict, check_change, lay, slots_fit};
 use crate::calls::Drain;
 use crate::world::{Answer, Queue};
 
@@ -28,7 +28,7 @@ pub fn is_good(queue: &Queue) -> bool {
 
 /// Opens a drain of start..end; nothing is handed over yet.
 pub fn open(queue: &mut Queue, start: usize, end: usize) -> Verdict {
-    check(queue)?;
+    check_change(queue)?;
     range_fits(start, end, queue.len)?;
     let (head, drain_len, tail_len) = (queue.head, end - start, queue.len - end);
     queue.drain = Some(Drain { head, start, drain_len, idx: start, tail_len, remaining: drain_len });

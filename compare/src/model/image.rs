@@ -1,6 +1,6 @@
 //! Saved images: two bytes of length, version 1, and four bytes for each element, all big-endian.
 
-use super::{LIMIT, Verdict, check, lay, list, slots_fit};
+use super::{LIMIT, Verdict, check, list, make, slots_fit};
 use crate::world::{Answer, Queue};
 
 /// The elements of an image whose layout is right.
@@ -19,7 +19,7 @@ pub fn read(queue: &mut Queue, bytes: &[u8]) -> Verdict {
     if list.len() > queue.cap() {
         return Err(4);
     }
-    lay(queue, 0, &list);
+    make(queue, &list);
     Ok((0, Answer::Silent))
 }
 

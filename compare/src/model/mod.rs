@@ -1,8 +1,9 @@
-//! Document 01 as plain Rust: a queue is a list laid into slots from head on, and each call turns one list into
-//! another. Nothing here looks at Rust's VecDeque.
+//! Document 01 and E1 of document 02 as plain Rust: a queue is a list laid into slots from head on, and each call turns
+//! one list into another. Nothing here looks at Rust's VecDeque.
 
 mod drain;
 mod image;
+mod moves;
 mod one;
 mod places;
 mod search;
@@ -54,6 +55,8 @@ fn verdict(world: &mut World, q: usize, call: &Call) -> Verdict {
         Call::Fresh => fresh(&mut world.0[q]),
         Call::ImageRead(bytes) => image::read(&mut world.0[q], bytes),
         Call::ImageWrite(target) => image::write(&world.0[q], *target),
+        Call::MoveAll => moves::whole(world, q),
+        Call::MovePortion(n) => moves::portion(world, q, *n),
         Call::SetRecord(..) | Call::SetDrain(_) | Call::SetWalk(_) | Call::Plant(..) | Call::Forget => {
             set(world, q, call)
         }
@@ -77,6 +80,12 @@ fn check(queue: &Queue) -> Result<(), u8> {
     if good_record(queue.cap(), queue.head, queue.len) { Ok(()) } else { Err(2) }
 }
 
+/// Refusals 1, 2 and 6 of a queue, for a call that can change its list or record.
+fn check_change(queue: &Queue) -> Result<(), u8> {
+    check(queue)?;
+    if queue.mark { Err(6) } else { Ok(()) }
+}
+
 /// Lays a list into the queue's slots from head on; every other slot keeps its value.
 fn lay(queue: &mut Queue, head: usize, list: &[u32]) {
     let cap = queue.cap();
@@ -87,18 +96,27 @@ fn lay(queue: &mut Queue, head: usize, list: &[u32]) {
     queue.len = list.len();
 }
 
+/// Makes a new record over a list in bare slots, from slot 0 on: it has no mark, whatever stood there.
+fn make(queue: &mut Queue, list: &[u32]) {
+    lay(queue, 0, list);
+    queue.mark = false;
+}
+
 /// Fresh: head 0, len 0; the slots keep what they hold.
 fn fresh(queue: &mut Queue) -> Verdict {
     slots_fit(queue.cap())?;
-    lay(queue, 0, &[]);
+    make(queue, &[]);
     Ok((0, Answer::Silent))
 }
 
 /// The lines 90 to 94, which only set a state.
 fn set(world: &mut World, q: usize, call: &Call) -> Verdict {
     match *call {
-        Call::SetRecord(head, len) => (world.0[q].head, world.0[q].len) = (head, len),
-        Call::SetDrain(d) => world.0[q].drain = Some(d),
+        Call::SetRecord(head, len, mark) => {
+            let queue = &mut world.0[q];
+            (queue.head, queue.len, queue.mark) = (head, len, mark);
+        }
+        Call::SetDrain(d) => (world.0[q].drain, world.0[q].mark) = (Some(d), false),
         Call::SetWalk(w) => world.0[q].walk = Some(w),
         Call::Plant(head, len) => {
             let cap = world.0[0].cap();
@@ -108,7 +126,7 @@ fn set(world: &mut World, q: usize, call: &Call) -> Verdict {
         }
         Call::Forget => {
             let queue = &mut world.0[q];
-            (queue.drain, queue.head, queue.len) = (None, 0, 0);
+            (queue.drain, queue.head, queue.len, queue.mark) = (None, 0, 0, false);
         }
         _ => unreachable!("not a line that sets a state"),
     }

@@ -1,7 +1,7 @@
 //! The calls on one queue that read or change its list at once.
 
 use super::places::{place, range_fits, runs, step_back};
-use super::{Verdict, check, lay, search};
+use super::{Verdict, check, check_change, lay, search};
 use crate::calls::Call;
 use crate::world::{Answer, Queue};
 
@@ -12,9 +12,29 @@ struct Now {
     list: Vec<u32>,
 }
 
-/// Refusals 1 and 2, then the call's rule, then the new list is laid.
+/// Whether the call only looks, so that an open mark does not matter to it.
+fn only_looks(call: &Call) -> bool {
+    matches!(
+        call,
+        Call::Get(_)
+            | Call::Front
+            | Call::Back
+            | Call::Contains(_)
+            | Call::Ranges(..)
+            | Call::FrontRun(..)
+            | Call::BackRun(..)
+            | Call::BinarySearch(_)
+            | Call::PartitionPoint(_)
+    )
+}
+
+/// Refusals 1, 2 and 6, then the call's rule, then the new list is laid.
 pub fn call(queue: &mut Queue, call: &Call) -> Verdict {
-    check(queue)?;
+    if only_looks(call) {
+        check(queue)?
+    } else {
+        check_change(queue)?
+    }
     let mut now = Now { cap: queue.cap(), head: queue.head, list: super::list(queue) };
     let (moved, answer) = now.rule(queue, call)?;
     lay(queue, now.head, &now.list);

@@ -8,7 +8,7 @@ use crate::world::{Answer, Queue};
 /// A walk over the whole list.
 pub fn begin(queue: &mut Queue) -> Verdict {
     check(queue)?;
-    queue.walk = Some(Walk { head: queue.head, len: queue.len, low: 0, high: queue.len });
+    queue.walk = Some(Walk { head: queue.head, len: queue.len, mark: queue.mark, low: 0, high: queue.len });
     Ok((0, Answer::Silent))
 }
 

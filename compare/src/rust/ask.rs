@@ -77,6 +77,8 @@ impl<E: Engine> Rust<E> {
             Call::Fresh => renew::<E>(world, q),
             Call::Append => self.append(world, q),
             Call::SplitOff(at) => self.split_off(world, q, *at),
+            Call::MoveAll => self.move_all(world, q),
+            Call::MovePortion(n) => self.move_portion(world, q, *n),
             Call::Equal => self.both(world, q, |e, other| Answer::Truth(e.equal(other))),
             Call::Compare => self.both(world, q, |e, other| Answer::Order(e.compare(other))),
             Call::DrainOpen(start, end) => open::<E>(world, q, *start, *end),
@@ -107,6 +109,14 @@ impl<E: Engine> Rust<E> {
         Ok(self.live[q].as_mut().unwrap())
     }
 
+    /// Both of the engine's queues, q's first, made if they aren't there.
+    fn two(&mut self, world: &World, q: usize) -> Result<(&mut E, &mut E), Heard> {
+        self.queue(world, q)?;
+        self.queue(world, 1 - q)?;
+        let [Some(a), Some(b)] = &mut self.live else { unreachable!("both were made") };
+        Ok(if q == 0 { (a, b) } else { (b, a) })
+    }
+
     /// A call on one list.
     fn one(&mut self, world: &World, q: usize, call: &Call) -> Result<Heard, Heard> {
         let e = self.queue(world, q)?;
@@ -121,19 +131,14 @@ impl<E: Engine> Rust<E> {
 
     /// A question about both lists.
     fn both(&mut self, world: &World, q: usize, ask: impl FnOnce(&E, &E) -> Answer) -> Result<Heard, Heard> {
-        self.queue(world, q)?;
-        self.queue(world, 1 - q)?;
-        let [Some(a), Some(b)] = &self.live else { unreachable!("both were made") };
-        let answer = listen(|| if q == 0 { ask(a, b) } else { ask(b, a) })?;
+        let (mine, theirs) = self.two(world, q)?;
+        let answer = listen(|| ask(mine, theirs))?;
         Ok(Heard::Gave(answer, Box::new(world.clone())))
     }
 
     /// The other queue's elements go behind.
     fn append(&mut self, world: &World, q: usize) -> Result<Heard, Heard> {
-        self.queue(world, q)?;
-        self.queue(world, 1 - q)?;
-        let [Some(a), Some(b)] = &mut self.live else { unreachable!("both were made") };
-        let (mine, theirs) = if q == 0 { (a, b) } else { (b, a) };
+        let (mine, theirs) = self.two(world, q)?;
         listen(|| mine.append(theirs))?;
         if mine.grown() {
             return Ok(Heard::Grew);
@@ -155,8 +160,29 @@ impl<E: Engine> Rust<E> {
             return Ok(Heard::OwnRoom);
         }
         target.slots[..off.len()].copy_from_slice(&off);
-        (target.head, target.len) = (0, off.len());
+        (target.head, target.len, target.mark) = (0, off.len(), false);
         self.live[1 - q] = None;
+        Ok(Heard::Gave(Answer::Silent, after))
+    }
+
+    /// A whole move: all go into a new queue over the region's slots.
+    fn move_all(&mut self, world: &World, q: usize) -> Result<Heard, Heard> {
+        self.live[1 - q] = Some(E::make(&world.0[1 - q].slots, 0, 0));
+        self.move_portion(world, q, usize::MAX)
+    }
+
+    /// The Rust has no call for a portion: the first n, or all if there are fewer, are drained into what extends the
+    /// other. Whether the mark stands is read from the Rust's old queue.
+    fn move_portion(&mut self, world: &World, q: usize, n: usize) -> Result<Heard, Heard> {
+        let (old, new) = self.two(world, q)?;
+        listen(|| new.take_front_of(old, n.min(old.len())))?;
+        if new.grown() {
+            return Ok(Heard::Grew);
+        }
+        let mut after = Box::new(world.clone());
+        read_back(&mut after.0[q], old);
+        read_back(&mut after.0[1 - q], new);
+        after.0[1 - q].mark = old.len() > 0;
         Ok(Heard::Gave(Answer::Silent, after))
     }
 }
@@ -177,6 +203,7 @@ fn read_back<E: Engine>(queue: &mut Queue, e: &mut E) {
 fn renew<E: Engine>(world: &World, q: usize) -> Result<Heard, Heard> {
     let mut after = Box::new(world.clone());
     read_back(&mut after.0[q], &mut E::make(&world.0[q].slots, 0, 0));
+    after.0[q].mark = false;
     Ok(Heard::Gave(Answer::Silent, after))
 }
 
@@ -213,7 +240,7 @@ fn begin<E: Engine>(world: &World, q: usize) -> Result<Heard, Heard> {
     let e: E = make(&world.0[q])?;
     let mut after = Box::new(world.clone());
     let queue = &mut after.0[q];
-    queue.walk = Some(Walk { head: queue.head, len: queue.len, low: 0, high: e.len() });
+    queue.walk = Some(Walk { head: queue.head, len: queue.len, mark: queue.mark, low: 0, high: e.len() });
     Ok(Heard::Gave(Answer::Silent, after))
 }
 

@@ -43,6 +43,8 @@ pub trait Engine: Sized {
     fn append(&mut self, other: &mut Self);
     /// The elements from at on, as they stand in a buffer of their own from slot 0.
     fn split_off(&mut self, at: usize) -> Vec<u32>;
+    /// The first n elements of the other, which has as many, go behind.
+    fn take_front_of(&mut self, other: &mut Self, n: usize);
     /// Equality of the lists.
     fn equal(&self, other: &Self) -> bool;
     /// Lexicographic order of the lists.
@@ -121,6 +123,10 @@ macro_rules! calls_of_the_rust {
             let other = self.deque.split_off(at);
             assert!(other.capacity() == other.len() && other.as_slices().1.is_empty(), "a buffer filled from slot 0");
             other.into()
+        }
+
+        fn take_front_of(&mut self, other: &mut Self, n: usize) {
+            self.deque.extend(other.deque.drain(..n))
         }
 
         fn equal(&self, other: &Self) -> bool {
