@@ -4,6 +4,10 @@
 //! A drain that is leaked (by `mem::forget`) can't close itself, so the next call closes it, whichever it is. A look
 //! has `&self`, and a closing moves elements: so the slots stand behind a pointer, and what is kept in a cell.
 //!
+//! While a drain is open, a mark stands in the place of the number of slots: one that there can't be. Most calls ask
+//! for it. A look for one element would be slowed by asking: it gives the archive whatever number it finds, and the
+//! archive refuses a mark (with 1), as it is proved to. Only then is a drain closed and the look made again.
+//!
 //! Why that is sound:
 //! - The pointer comes from the `&'a mut [u32]` that was lent: for `'a`, only this queue reads and writes the slots.
 //! - A call with `&mut self` is alone with the queue: whatever references earlier calls gave are not used any more.
@@ -11,13 +15,15 @@
 //!   mark off, every other call with `&self` waits; and none before it has given a reference since the drain was
 //!   opened, for it would have closed the drain itself. A drain is opened with `&mut self`, so once a call with `&self`
 //!   sees no mark, nothing is written as long as the reference that it gives is used.
+//! - A look for one element that gives the archive a mark gives it pointers and no references, and 1 is the first that
+//!   the archive asks: it reads neither a slot nor the record.
 //! - A mark is taken off with `Release` and read with `Acquire`: who sees none sees the elements in their new places.
-use crate::raw::{self, Record, Reply};
+use crate::raw::{self, FoundReply, Record, Reply, Seen};
 use crate::Refusal;
 use core::cell::UnsafeCell;
 use core::hint::spin_loop;
 use core::marker::PhantomData;
-use core::ptr::NonNull;
+use core::ptr::{addr_of, NonNull};
 use core::slice;
 use core::sync::atomic::{AtomicUsize, Ordering};
 
@@ -78,6 +84,22 @@ impl<'a> Lent<'a> {
             kept: UnsafeCell::new(Kept { record, moved, drain: raw::Drain::default() }),
             borrow: PhantomData,
         }
+    }
+
+    /// Looks for one element: first without asking for a mark.
+    #[inline]
+    pub fn find(&self, look: impl Fn(Seen<'_>) -> FoundReply) -> Option<u32> {
+        let number = self.number.load(Ordering::Acquire);
+        // SAFETY: it is a mark, above 16,000, or the number of the slots, and nothing is written while `&self` is used.
+        let reply = look(unsafe { Seen::at(self.slots.cast().as_ptr(), number, addr_of!((*self.kept.get()).record)) });
+        if let Some(x) = reply.given() {
+            return Some(x);
+        }
+        if reply.refused == 0 {
+            return None;
+        }
+        let (slots, kept) = self.look();
+        look(Seen::of(slots, &kept.record)).given()
     }
 
     /// The slots and what is kept, to look at.
@@ -181,6 +203,10 @@ mod tests {
         thread::scope(|scope| {
             scope.spawn(|| {
                 lent.look();
+                assert!(closed.load(Ordering::Relaxed));
+            });
+            scope.spawn(|| {
+                assert_eq!(lent.find(raw::front), Some(1));
                 assert!(closed.load(Ordering::Relaxed));
             });
             thread::sleep(Duration::from_millis(50));

@@ -4,13 +4,6 @@ use crate::{Iter, Queue, Refusal, Test};
 use core::cmp::Ordering;
 use core::ops::RangeBounds;
 
-/// What a look at one element found. It is never refused: the record is good.
-#[inline]
-fn found(reply: raw::FoundReply) -> Option<u32> {
-    debug_assert_eq!(reply.refused, 0);
-    (reply.found == 1).then_some(reply.number)
-}
-
 /// The two runs as parts of the slots.
 #[inline]
 fn parts<'s>(slots: &'s [u32], runs: &raw::Runs) -> (&'s [u32], &'s [u32]) {
@@ -21,22 +14,19 @@ impl Queue<'_> {
     /// The element at position i, or `None` past the end.
     #[inline]
     pub fn get(&self, i: usize) -> Option<u32> {
-        let (slots, kept) = self.lent.look();
-        found(raw::get(slots, &kept.record, i))
+        self.lent.find(move |queue| raw::get(queue, i))
     }
 
     /// The first element, or `None` of an empty queue.
     #[inline]
     pub fn front(&self) -> Option<u32> {
-        let (slots, kept) = self.lent.look();
-        found(raw::front(slots, &kept.record))
+        self.lent.find(raw::front)
     }
 
     /// The last element, or `None` of an empty queue.
     #[inline]
     pub fn back(&self) -> Option<u32> {
-        let (slots, kept) = self.lent.look();
-        found(raw::back(slots, &kept.record))
+        self.lent.find(raw::back)
     }
 
     /// Whether x stands in it.

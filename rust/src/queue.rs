@@ -1,6 +1,6 @@
 //! The queue: how it is made, and what it is.
 use crate::lent::Lent;
-use crate::raw;
+use crate::raw::{self, Seen};
 use crate::{Record, Refusal};
 use core::ops::{Bound, RangeBounds};
 
@@ -50,7 +50,7 @@ impl<'a> Queue<'a> {
     ///   slots it is 0), or `len` is more than their number.
     pub fn with_record(slots: &'a mut [u32], record: Record) -> Result<Queue<'a>, Refusal> {
         // a look at the first element is refused for these two reasons alone
-        Refusal::of(raw::front(slots, &record).refused)?;
+        Refusal::of(raw::front(Seen::of(slots, &record)).refused)?;
         Ok(Queue::over(slots, record, 0))
     }
 

@@ -2,7 +2,9 @@
 //!
 //! Why the functions are safe: each exported call is proved for any slots, record and numbers; a slice or a reference
 //! is never null, is aligned and as long as it says; and what a call writes comes as `&mut`, so that nothing else in
-//! the call overlaps it. The structs are those of `include/scorebucket.h`.
+//! the call overlaps it. (`Seen` has pointers, and says what holds of them.) The structs are those of
+//! `include/scorebucket.h`.
+use core::marker::PhantomData;
 
 /// The record of a queue: element i stands `i` slots on from `head`, round the end.
 #[repr(C)]
@@ -24,6 +26,33 @@ pub(crate) struct Drain {
     pub idx: usize,
     pub tail_len: usize,
     pub remaining: usize,
+}
+
+/// A queue as a look for one element is given it: the slots, their number, and the record.
+///
+/// These are no references, since there may be nothing to refer to: where the number is above 16,000, the look is
+/// refused for it before it reads any slot or the record.
+#[derive(Clone, Copy)]
+pub(crate) struct Seen<'s> {
+    slots: *const u32,
+    number: usize,
+    record: *const Record,
+    lent: PhantomData<&'s Record>,
+}
+
+impl<'s> Seen<'s> {
+    #[inline]
+    pub fn of(slots: &'s [u32], record: &'s Record) -> Seen<'s> {
+        Seen { slots: slots.as_ptr(), number: slots.len(), record, lent: PhantomData }
+    }
+
+    /// # Safety
+    ///
+    /// Where the number is at most 16,000, so many slots and the record are there, and nobody writes to them for `'s`.
+    #[inline]
+    pub unsafe fn at(slots: *const u32, number: usize, record: *const Record) -> Seen<'s> {
+        Seen { slots, number, record, lent: PhantomData }
+    }
 }
 
 /// A part of the slots.
@@ -51,6 +80,15 @@ pub(crate) struct FoundReply {
     pub refused: u16,
     pub found: u16,
     pub number: u32,
+}
+
+impl FoundReply {
+    /// What was found. Both numbers are asked in one comparison: a `get` takes no longer than a few of them.
+    #[inline]
+    pub fn given(self) -> Option<u32> {
+        let found = u32::from(self.found) << 16 | u32::from(self.refused) == 1 << 16;
+        found.then_some(self.number)
+    }
 }
 
 /// Of a yes-or-no question.
@@ -267,18 +305,18 @@ pub(crate) fn pop_back_if(slots: &[u32], q: &mut Record, kind: u32, k: u32) -> R
 }
 
 #[inline]
-pub(crate) fn get(slots: &[u32], q: &Record, i: usize) -> FoundReply {
-    unsafe { exported::scorebucket_get(slots.as_ptr(), slots.len(), q, i) }
+pub(crate) fn get(q: Seen<'_>, i: usize) -> FoundReply {
+    unsafe { exported::scorebucket_get(q.slots, q.number, q.record, i) }
 }
 
 #[inline]
-pub(crate) fn front(slots: &[u32], q: &Record) -> FoundReply {
-    unsafe { exported::scorebucket_front(slots.as_ptr(), slots.len(), q) }
+pub(crate) fn front(q: Seen<'_>) -> FoundReply {
+    unsafe { exported::scorebucket_front(q.slots, q.number, q.record) }
 }
 
 #[inline]
-pub(crate) fn back(slots: &[u32], q: &Record) -> FoundReply {
-    unsafe { exported::scorebucket_back(slots.as_ptr(), slots.len(), q) }
+pub(crate) fn back(q: Seen<'_>) -> FoundReply {
+    unsafe { exported::scorebucket_back(q.slots, q.number, q.record) }
 }
 
 #[inline]

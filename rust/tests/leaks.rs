@@ -129,6 +129,23 @@ fn the_next_call_finds_it_closed() {
     }
 }
 
+/// The first call closes it, and the second finds nothing of it any more.
+#[test]
+fn and_so_does_every_call_after_it() {
+    for (first, one) in CALLS {
+        for (second, other) in CALLS {
+            let outcome = |leaked| {
+                let mut slots = LAID;
+                let mut queue = wrapped(&mut slots);
+                left(&mut queue, 1, 3, 1, 0, leaked);
+                let answers = (one(&mut queue), other(&mut queue));
+                text!(answers, queue.moved(), queue.record(), queue.slots())
+            };
+            assert_eq!(outcome(true), outcome(false), "{first}, then {second}");
+        }
+    }
+}
+
 #[test]
 fn its_elements_are_out_as_in_the_standard_library() {
     every_drain(|start, end, front, back| {
@@ -158,25 +175,27 @@ fn a_queue_may_end_with_it() {
     assert_eq!(slots, LAID);
 }
 
-/// Two threads look at the same time: one of them closes the drain, and both see it closed.
+/// Two threads look at the same time: one of them closes the drain, and both see it closed, also if one of them asks
+/// for the slots and the other for an element.
 #[test]
 fn two_threads_look_at_once() {
-    for _ in 0..50 {
+    for turn in 0..100 {
         let mut slots: Vec<u32> = (0..16_000).collect();
         let mut queue = Queue::with_record(&mut slots, Record { head: 0, len: 16_000 }).unwrap();
         left(&mut queue, 7_999, 8_001, 1, 0, true);
         let (queue, ready) = (&queue, &AtomicUsize::new(0));
-        let look = || {
+        let look = |by_slices| {
             ready.fetch_add(1, Ordering::SeqCst);
             while ready.load(Ordering::SeqCst) < 2 {
                 thread::yield_now();
             }
-            (queue.get(7_998), queue.get(7_999), queue.get(15_997), queue.len())
+            let run = if by_slices { queue.as_slices().0 } else { &[] };
+            (queue.get(7_998), queue.get(7_999), queue.get(15_997), queue.len(), !by_slices || run[7_999] == 8_001)
         };
         thread::scope(|scope| {
-            let other = scope.spawn(look);
-            assert_eq!(look(), (Some(7_998), Some(8_001), Some(15_999), 15_998));
-            assert_eq!(other.join().unwrap(), (Some(7_998), Some(8_001), Some(15_999), 15_998));
+            let other = scope.spawn(|| look(turn % 2 == 0));
+            assert_eq!(look(false), (Some(7_998), Some(8_001), Some(15_999), 15_998, true));
+            assert_eq!(other.join().unwrap(), (Some(7_998), Some(8_001), Some(15_999), 15_998, true));
         });
     }
 }
