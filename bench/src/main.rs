@@ -49,7 +49,7 @@ fn print_calls() {
     for work in Work::ALL {
         for wrapped in [false, true] {
             let mut before: Option<(usize, Times)> = None;
-            for n in LENGTHS {
+            for n in LENGTHS.into_iter().filter(|n| work.is_for(*n)) {
                 let t = times_of(work, n, wrapped);
                 let inlined = if work.is_small() { format!("{:.1}", t.inlined) } else { String::new() };
                 let growth = |f: fn(&Times) -> f64| match &before {

@@ -4,7 +4,7 @@ use scorebucket::{Record, Test};
 
 pub struct Proved {
     queue: scorebucket::Queue<'static>,
-    /// The slots of what is split off.
+    /// The slots of what is split off, or is moved to here.
     target: Vec<u32>,
 }
 
@@ -14,7 +14,7 @@ const REFUSED: &str = "refused";
 impl Queue for Proved {
     fn starting_at(cap: usize, head: usize) -> Self {
         let slots = vec![0; cap].leak();
-        let queue = scorebucket::Queue::with_record(slots, Record { head, len: 0 }).expect(REFUSED);
+        let queue = scorebucket::Queue::with_record(slots, Record { head, ..Record::default() }).expect(REFUSED);
         Proved { queue, target: vec![0; cap] }
     }
     fn push_back(&mut self, v: u32) {
@@ -24,10 +24,10 @@ impl Queue for Proved {
         self.queue.push_front(v).expect(REFUSED)
     }
     fn pop_front(&mut self) -> Option<u32> {
-        self.queue.pop_front()
+        self.queue.pop_front().expect(REFUSED)
     }
     fn pop_back(&mut self) -> Option<u32> {
-        self.queue.pop_back()
+        self.queue.pop_back().expect(REFUSED)
     }
     fn get(&self, i: usize) -> Option<u32> {
         self.queue.get(i)
@@ -36,10 +36,10 @@ impl Queue for Proved {
         self.queue.insert(i, v).expect(REFUSED)
     }
     fn remove(&mut self, i: usize) -> Option<u32> {
-        self.queue.remove(i)
+        self.queue.remove(i).expect(REFUSED)
     }
     fn truncate(&mut self, n: usize) {
-        self.queue.truncate(n)
+        self.queue.truncate(n).expect(REFUSED)
     }
     fn extend(&mut self, values: &[u32]) {
         self.queue.extend(values).expect(REFUSED)
@@ -48,7 +48,7 @@ impl Queue for Proved {
         self.queue.prepend(values).expect(REFUSED)
     }
     fn truncate_front(&mut self, n: usize) {
-        self.queue.truncate_front(n)
+        self.queue.truncate_front(n).expect(REFUSED)
     }
     fn extend_front(&mut self, values: &[u32]) {
         self.queue.extend_front(values).expect(REFUSED)
@@ -63,6 +63,13 @@ impl Queue for Proved {
     fn append(&mut self, other: &mut Self) {
         self.queue.append(&mut other.queue).expect(REFUSED)
     }
+    fn move_all(&mut self, target: &mut Self) {
+        self.queue.move_into(&mut target.target).expect(REFUSED);
+    }
+    fn move_portion(&mut self, n: usize, target: &mut Self) {
+        let mut fresh = scorebucket::Queue::new(&mut target.target).expect(REFUSED);
+        self.queue.move_portion(n, &mut fresh).expect(REFUSED)
+    }
     fn drain(&mut self, start: usize, end: usize) {
         drop(self.queue.drain(start..end).expect(REFUSED))
     }
@@ -70,7 +77,7 @@ impl Queue for Proved {
         self.queue.splice(start..end, values).expect(REFUSED)
     }
     fn retain_below(&mut self, k: u32) {
-        self.queue.retain(Test::Below(k))
+        self.queue.retain(Test::Below(k)).expect(REFUSED)
     }
     fn sum(&self) -> u32 {
         self.queue.iter().fold(0, u32::wrapping_add)

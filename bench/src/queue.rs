@@ -20,6 +20,10 @@ pub trait Queue {
     fn append(&mut self, other: &mut Self);
     /// Splits the elements from position `at` on off, and appends them again.
     fn split_append(&mut self, at: usize);
+    /// Moves all elements into the target, which is empty and starts at the first slot then, and is left empty.
+    fn move_all(&mut self, target: &mut Self);
+    /// Moves the first n elements into such a target.
+    fn move_portion(&mut self, n: usize, target: &mut Self);
     fn drain(&mut self, start: usize, end: usize);
     fn splice(&mut self, start: usize, end: usize, values: &[u32]);
     fn retain_below(&mut self, k: u32);

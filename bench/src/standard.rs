@@ -84,6 +84,19 @@ macro_rules! side {
                 self.0.append(&mut other.0)
             }
             #[$inlining]
+            fn move_all(&mut self, target: &mut Self) {
+                let (front, back) = self.0.as_slices();
+                target.0.clear();
+                target.0.extend(front);
+                target.0.extend(back);
+                self.0.clear()
+            }
+            #[$inlining]
+            fn move_portion(&mut self, n: usize, target: &mut Self) {
+                target.0.clear();
+                target.0.extend(self.0.drain(..n))
+            }
+            #[$inlining]
             fn drain(&mut self, start: usize, end: usize) {
                 drop(self.0.drain(start..end))
             }

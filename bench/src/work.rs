@@ -20,6 +20,8 @@ pub enum Work {
     Resize,
     Append,
     SplitAppend,
+    MoveAll,
+    MovePortion(usize),
     SpliceSame,
     SpliceGrow,
     RetainAll,
@@ -31,7 +33,7 @@ pub enum Work {
 }
 
 impl Work {
-    pub const ALL: [Work; 24] = [
+    pub const ALL: [Work; 27] = [
         Work::PushBackPopFront,
         Work::PushFrontPopBack,
         Work::GetAll,
@@ -48,6 +50,9 @@ impl Work {
         Work::Resize,
         Work::Append,
         Work::SplitAppend,
+        Work::MoveAll,
+        Work::MovePortion(64),
+        Work::MovePortion(1_000),
         Work::SpliceSame,
         Work::SpliceGrow,
         Work::RetainAll,
@@ -76,6 +81,9 @@ impl Work {
             Work::Resize => "resize by n/2 more, truncate",
             Work::Append => "append n/2, extend the other by n/2",
             Work::SplitAppend => "split_off in the middle, append",
+            Work::MoveAll => "the whole move, extend by n",
+            Work::MovePortion(64) => "a portion of 64, prepend 64",
+            Work::MovePortion(_) => "a portion of 1,000, prepend 1,000",
             Work::SpliceSame => "splice n/8 for n/8 in the middle",
             Work::SpliceGrow => "splice n/8 for n/16, n/16 for n/8",
             Work::RetainAll => "retain, none rejected",
@@ -84,6 +92,14 @@ impl Work {
             Work::Equality => "equality, equal",
             Work::Order => "order, equal",
             Work::BinarySearch => "binary_search, 64 times",
+        }
+    }
+
+    /// Whether it is timed with n elements: a portion is, where there are as many.
+    pub fn is_for(self, n: usize) -> bool {
+        match self {
+            Work::MovePortion(k) => k <= n,
+            _ => true,
         }
     }
 
@@ -121,7 +137,9 @@ impl<Q: Queue> State<Q> {
     /// The state that the work begins in: the elements stand in one run, or run past the last slot.
     pub fn for_work(work: Work, n: usize, wrapped: bool) -> State<Q> {
         let cap = n + n / 4 + 16;
-        let head = if wrapped { cap - n / 2 } else { n / 8 + 4 };
+        // round the end goes what the work is about
+        let round = if let Work::MovePortion(k) = work { k } else { n };
+        let head = if wrapped { cap - round / 2 } else { n / 8 + 4 };
         let ascending: Vec<u32> = (0..n as u32).collect();
         let mixed = ascending.iter().map(|v| v.wrapping_mul(2654435761) >> 1).collect();
         let mut queue = Q::starting_at(cap, head);
@@ -185,10 +203,7 @@ impl<Q: Queue> State<Q> {
             Work::DrainAll => times.for_each(|_| {
                 let q = black_box(&mut *q);
                 black_box(q.drain_sum());
-                // a queue that is drained starts anew at the first slot: what is put in front runs round the end
-                let (front, back) = values.split_at(if self.wrapped { n / 2 } else { 0 });
-                q.extend(back);
-                q.prepend(front);
+                refill(q, values, self.wrapped);
             }),
             Work::Extend => times.for_each(|_| {
                 let q = black_box(&mut *q);
@@ -211,6 +226,19 @@ impl<Q: Queue> State<Q> {
                 q.truncate(n / 2);
             }),
             Work::SplitAppend => times.for_each(|_| black_box(&mut *q).split_append(n / 2)),
+            Work::MoveAll => times.for_each(|_| {
+                let q = black_box(&mut *q);
+                q.move_all(&mut self.other);
+                refill(q, values, self.wrapped);
+            }),
+            Work::MovePortion(k) => times.for_each(|_| {
+                let q = black_box(&mut *q);
+                q.move_portion(k, &mut self.other);
+                match k == n {
+                    true => refill(q, values, self.wrapped),
+                    false => q.prepend(&values[0..k]),
+                }
+            }),
             Work::Append => times.for_each(|_| {
                 let q = black_box(&mut *q);
                 q.append(&mut self.other);
@@ -248,6 +276,16 @@ impl<Q: Queue> State<Q> {
                 }
             }),
         }
+    }
+}
+
+/// Puts the values into a queue that was emptied, and so starts anew at the first slot: what is put in front of that
+/// runs round the end.
+fn refill<Q: Queue>(q: &mut Q, values: &[u32], wrapped: bool) {
+    let (front, back) = values.split_at(if wrapped { values.len() / 2 } else { 0 });
+    q.extend(back);
+    if wrapped {
+        q.prepend(front);
     }
 }
 

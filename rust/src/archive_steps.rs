@@ -31,7 +31,7 @@ fn every_queue(mut each: impl FnMut(&mut [u32], Record, &[bool])) {
                 for order in 0..1 << STEPS {
                     let mut slots = [11, 12, 13, 14, 15];
                     let from_front: [bool; STEPS] = core::array::from_fn(|step| order >> step & 1 == 1);
-                    each(&mut slots[..cap], Record { head, len }, &from_front);
+                    each(&mut slots[..cap], Record { head, len, mark: 0 }, &from_front);
                 }
             }
         }
@@ -43,7 +43,7 @@ fn a_drain_steps_as_the_archive() {
     every_queue(|slots, record, steps| {
         for end in 0..=record.len {
             for start in 0..=end {
-                let mut queue = Queue::with_record(slots, record).unwrap();
+                let mut queue = Queue::with_record(slots, record.into()).unwrap();
                 let mut drain = queue.drain(start..end).unwrap();
                 let mut kept = *drain.queue.lent.opened().1;
                 for from_front in steps {
@@ -68,7 +68,7 @@ fn a_drain_steps_as_the_archive() {
 #[test]
 fn an_iterator_steps_as_the_archive() {
     every_queue(|slots, record, steps| {
-        let queue = Queue::with_record(slots, record).unwrap();
+        let queue = Queue::with_record(slots, record.into()).unwrap();
         let slots = queue.slots();
         let mut iter = queue.iter();
         let mut walk = Walk::default();

@@ -8,110 +8,152 @@ impl<'a> Queue<'a> {
     ///
     /// # Errors
     ///
-    /// [`Refusal::Room`] (4) if every slot holds an element.
+    /// In this order:
+    /// - [`Refusal::MoveOpen`] (6) while a move into the queue is open;
+    /// - [`Refusal::Room`] (4) if every slot holds an element.
     #[inline]
     pub fn push_back(&mut self, v: u32) -> Result<(), Refusal> {
         let (slots, kept) = self.lent.change();
         let reply = raw::push_back(slots, &mut kept.record, v);
-        kept.take_change(reply)
+        kept.take(reply)
     }
 
     /// Puts v in front.
     ///
     /// # Errors
     ///
-    /// [`Refusal::Room`] (4) if every slot holds an element.
+    /// In this order:
+    /// - [`Refusal::MoveOpen`] (6) while a move into the queue is open;
+    /// - [`Refusal::Room`] (4) if every slot holds an element.
     #[inline]
     pub fn push_front(&mut self, v: u32) -> Result<(), Refusal> {
         let (slots, kept) = self.lent.change();
         let reply = raw::push_front(slots, &mut kept.record, v);
-        kept.take_change(reply)
+        kept.take(reply)
     }
 
     /// Hands the first element over, or `None` of an empty queue.
+    ///
+    /// # Errors
+    ///
+    /// [`Refusal::MoveOpen`] (6) while a move into the queue is open.
     #[inline]
-    pub fn pop_front(&mut self) -> Option<u32> {
+    pub fn pop_front(&mut self) -> Result<Option<u32>, Refusal> {
         let (slots, kept) = self.lent.change();
         let reply = raw::pop_front(slots, &mut kept.record);
-        kept.take(reply)
+        kept.take_handed(reply)
     }
 
     /// Hands the last element over, or `None` of an empty queue.
+    ///
+    /// # Errors
+    ///
+    /// [`Refusal::MoveOpen`] (6) while a move into the queue is open.
     #[inline]
-    pub fn pop_back(&mut self) -> Option<u32> {
+    pub fn pop_back(&mut self) -> Result<Option<u32>, Refusal> {
         let (slots, kept) = self.lent.change();
         let reply = raw::pop_back(slots, &mut kept.record);
-        kept.take(reply)
+        kept.take_handed(reply)
     }
 
     /// Hands the first element over if it meets the test; else `None`, and it stays.
+    ///
+    /// # Errors
+    ///
+    /// [`Refusal::MoveOpen`] (6) while a move into the queue is open.
     #[inline]
-    pub fn pop_front_if(&mut self, test: Test) -> Option<u32> {
+    pub fn pop_front_if(&mut self, test: Test) -> Result<Option<u32>, Refusal> {
         let (kind, k) = test.numbers();
         let (slots, kept) = self.lent.change();
         let reply = raw::pop_front_if(slots, &mut kept.record, kind, k);
-        kept.take(reply)
+        kept.take_handed(reply)
     }
 
     /// Hands the last element over if it meets the test; else `None`, and it stays.
+    ///
+    /// # Errors
+    ///
+    /// [`Refusal::MoveOpen`] (6) while a move into the queue is open.
     #[inline]
-    pub fn pop_back_if(&mut self, test: Test) -> Option<u32> {
+    pub fn pop_back_if(&mut self, test: Test) -> Result<Option<u32>, Refusal> {
         let (kind, k) = test.numbers();
         let (slots, kept) = self.lent.change();
         let reply = raw::pop_back_if(slots, &mut kept.record, kind, k);
-        kept.take(reply)
+        kept.take_handed(reply)
     }
 
     /// Keeps the first n elements, or all if there are no more.
+    ///
+    /// # Errors
+    ///
+    /// [`Refusal::MoveOpen`] (6) while a move into the queue is open.
     #[inline]
-    pub fn truncate(&mut self, n: usize) {
+    pub fn truncate(&mut self, n: usize) -> Result<(), Refusal> {
         let (slots, kept) = self.lent.change();
         let reply = raw::truncate(slots, &mut kept.record, n);
-        kept.take(reply);
+        kept.take(reply)
     }
 
     /// Keeps the last n elements, or all if there are no more.
+    ///
+    /// # Errors
+    ///
+    /// [`Refusal::MoveOpen`] (6) while a move into the queue is open.
     #[inline]
-    pub fn truncate_front(&mut self, n: usize) {
+    pub fn truncate_front(&mut self, n: usize) -> Result<(), Refusal> {
         let (slots, kept) = self.lent.change();
         let reply = raw::truncate_front(slots, &mut kept.record, n);
-        kept.take(reply);
+        kept.take(reply)
     }
 
     /// Keeps no element, and starts anew at the first slot.
+    ///
+    /// # Errors
+    ///
+    /// [`Refusal::MoveOpen`] (6) while a move into the queue is open.
     #[inline]
-    pub fn clear(&mut self) {
+    pub fn clear(&mut self) -> Result<(), Refusal> {
         let (slots, kept) = self.lent.change();
         let reply = raw::clear(slots, &mut kept.record);
-        kept.take(reply);
+        kept.take(reply)
     }
 
     /// Exchanges the elements at positions i and j.
     ///
     /// # Errors
     ///
-    /// [`Refusal::Position`] (3) if there is no element at one of them.
+    /// In this order:
+    /// - [`Refusal::MoveOpen`] (6) while a move into the queue is open;
+    /// - [`Refusal::Position`] (3) if there is no element at one of them.
     #[inline]
     pub fn swap(&mut self, i: usize, j: usize) -> Result<(), Refusal> {
         let (slots, kept) = self.lent.change();
         let reply = raw::swap(slots, &mut kept.record, i, j);
-        kept.take_change(reply)
+        kept.take(reply)
     }
 
     /// Hands the element at position i over and puts the first one in its place; `None` past the end.
+    ///
+    /// # Errors
+    ///
+    /// [`Refusal::MoveOpen`] (6) while a move into the queue is open.
     #[inline]
-    pub fn swap_remove_front(&mut self, i: usize) -> Option<u32> {
+    pub fn swap_remove_front(&mut self, i: usize) -> Result<Option<u32>, Refusal> {
         let (slots, kept) = self.lent.change();
         let reply = raw::swap_remove_front(slots, &mut kept.record, i);
-        kept.take(reply)
+        kept.take_handed(reply)
     }
 
     /// Hands the element at position i over and puts the last one in its place; `None` past the end.
+    ///
+    /// # Errors
+    ///
+    /// [`Refusal::MoveOpen`] (6) while a move into the queue is open.
     #[inline]
-    pub fn swap_remove_back(&mut self, i: usize) -> Option<u32> {
+    pub fn swap_remove_back(&mut self, i: usize) -> Result<Option<u32>, Refusal> {
         let (slots, kept) = self.lent.change();
         let reply = raw::swap_remove_back(slots, &mut kept.record, i);
-        kept.take(reply)
+        kept.take_handed(reply)
     }
 
     /// Puts v at position i, where `len` is behind the last element; the shorter side moves.
@@ -119,91 +161,111 @@ impl<'a> Queue<'a> {
     /// # Errors
     ///
     /// In this order:
+    /// - [`Refusal::MoveOpen`] (6) while a move into the queue is open;
     /// - [`Refusal::Position`] (3) if i is more than `len`;
     /// - [`Refusal::Room`] (4) if every slot holds an element.
     #[inline]
     pub fn insert(&mut self, i: usize, v: u32) -> Result<(), Refusal> {
         let (slots, kept) = self.lent.change();
         let reply = raw::insert(slots, &mut kept.record, i, v);
-        kept.take_change(reply)
-    }
-
-    /// Hands the element at position i over, and the shorter side moves; `None` past the end.
-    #[inline]
-    pub fn remove(&mut self, i: usize) -> Option<u32> {
-        let (slots, kept) = self.lent.change();
-        let reply = raw::remove(slots, &mut kept.record, i);
         kept.take(reply)
     }
 
-    /// Keeps, in order, the elements that meet the test.
+    /// Hands the element at position i over, and the shorter side moves; `None` past the end.
+    ///
+    /// # Errors
+    ///
+    /// [`Refusal::MoveOpen`] (6) while a move into the queue is open.
     #[inline]
-    pub fn retain(&mut self, test: Test) {
+    pub fn remove(&mut self, i: usize) -> Result<Option<u32>, Refusal> {
+        let (slots, kept) = self.lent.change();
+        let reply = raw::remove(slots, &mut kept.record, i);
+        kept.take_handed(reply)
+    }
+
+    /// Keeps, in order, the elements that meet the test.
+    ///
+    /// # Errors
+    ///
+    /// [`Refusal::MoveOpen`] (6) while a move into the queue is open.
+    #[inline]
+    pub fn retain(&mut self, test: Test) -> Result<(), Refusal> {
         let (kind, k) = test.numbers();
         let (slots, kept) = self.lent.change();
         let reply = raw::retain(slots, &mut kept.record, kind, k);
-        kept.take(reply);
+        kept.take(reply)
     }
 
     /// Appends the values, or none of them.
     ///
     /// # Errors
     ///
-    /// [`Refusal::Room`] (4) if they do not all fit.
+    /// In this order:
+    /// - [`Refusal::MoveOpen`] (6) while a move into the queue is open;
+    /// - [`Refusal::Room`] (4) if they do not all fit.
     #[inline]
     pub fn extend(&mut self, values: &[u32]) -> Result<(), Refusal> {
         let (slots, kept) = self.lent.change();
         let reply = raw::extend(slots, &mut kept.record, values);
-        kept.take_change(reply)
+        kept.take(reply)
     }
 
     /// Puts the values in front, in their order, or none of them.
     ///
     /// # Errors
     ///
-    /// [`Refusal::Room`] (4) if they do not all fit.
+    /// In this order:
+    /// - [`Refusal::MoveOpen`] (6) while a move into the queue is open;
+    /// - [`Refusal::Room`] (4) if they do not all fit.
     #[inline]
     pub fn prepend(&mut self, values: &[u32]) -> Result<(), Refusal> {
         let (slots, kept) = self.lent.change();
         let reply = raw::prepend(slots, &mut kept.record, values);
-        kept.take_change(reply)
+        kept.take(reply)
     }
 
     /// Puts the values in front, the last of them first, or none of them.
     ///
     /// # Errors
     ///
-    /// [`Refusal::Room`] (4) if they do not all fit.
+    /// In this order:
+    /// - [`Refusal::MoveOpen`] (6) while a move into the queue is open;
+    /// - [`Refusal::Room`] (4) if they do not all fit.
     #[inline]
     pub fn extend_front(&mut self, values: &[u32]) -> Result<(), Refusal> {
         let (slots, kept) = self.lent.change();
         let reply = raw::extend_front(slots, &mut kept.record, values);
-        kept.take_change(reply)
+        kept.take(reply)
     }
 
     /// Keeps the first n elements, or appends copies of v until there are n.
     ///
     /// # Errors
     ///
-    /// [`Refusal::Room`] (4) if n is more than the number of slots.
+    /// In this order:
+    /// - [`Refusal::MoveOpen`] (6) while a move into the queue is open;
+    /// - [`Refusal::Room`] (4) if n is more than the number of slots.
     #[inline]
     pub fn resize(&mut self, n: usize, v: u32) -> Result<(), Refusal> {
         let (slots, kept) = self.lent.change();
         let reply = raw::resize(slots, &mut kept.record, n, v);
-        kept.take_change(reply)
+        kept.take(reply)
     }
 
     /// Takes the other queue's elements behind its own, and leaves the other empty.
     ///
     /// # Errors
     ///
-    /// [`Refusal::Room`] (4) if they do not all fit; both queues are as they were then.
+    /// In this order, with both queues as they were:
+    /// - [`Refusal::MoveOpen`] (6) while a move into the queue is open;
+    /// - the same of the other queue;
+    /// - [`Refusal::Room`] (4) if its elements do not all fit.
     #[inline]
     pub fn append(&mut self, other: &mut Queue<'_>) -> Result<(), Refusal> {
         let (slots, kept) = self.lent.change();
         let (other_slots, other_kept) = other.lent.change();
         let reply = raw::append(slots, &mut kept.record, other_slots, &mut other_kept.record);
-        kept.take_change(reply)?;
+        kept.take(reply)?;
         other_kept.moved = reply.moved;
         Ok(())
     }
@@ -213,6 +275,7 @@ impl<'a> Queue<'a> {
     /// # Errors
     ///
     /// In this order, with the target as it was:
+    /// - [`Refusal::MoveOpen`] (6) while a move into the queue is open;
     /// - [`Refusal::Slots`] (1) if the target has more than 16,000 slots;
     /// - [`Refusal::Position`] (3) if `at` is more than `len`;
     /// - [`Refusal::Room`] (4) if the target has fewer slots than elements are to go there.
@@ -221,7 +284,7 @@ impl<'a> Queue<'a> {
         let (slots, kept) = self.lent.change();
         let mut record = Record::default();
         let reply = raw::split_off(slots, &mut kept.record, at, target, &mut record);
-        kept.take_change(reply)?;
+        kept.take(reply)?;
         Ok(Queue::over(target, record, reply.moved))
     }
 
@@ -229,10 +292,12 @@ impl<'a> Queue<'a> {
     ///
     /// # Errors
     ///
-    /// [`Refusal::Position`] (3) if the range ends before it starts, or past the end of the queue.
+    /// In this order:
+    /// - [`Refusal::MoveOpen`] (6) while a move into the queue is open;
+    /// - [`Refusal::Position`] (3) if the range ends before it starts, or past the end of the queue.
     #[inline]
     pub fn drain(&mut self, range: impl RangeBounds<usize>) -> Result<Drain<'_, 'a>, Refusal> {
-        let (start, end) = self.ends(range)?;
+        let (start, end) = self.ends(range);
         Drain::open(self, start, end)
     }
 
@@ -241,13 +306,14 @@ impl<'a> Queue<'a> {
     /// # Errors
     ///
     /// In this order:
+    /// - [`Refusal::MoveOpen`] (6) while a move into the queue is open;
     /// - [`Refusal::Position`] (3) if the range ends before it starts, or past the end of the queue;
     /// - [`Refusal::Room`] (4) if the values do not all fit.
     #[inline]
     pub fn splice(&mut self, range: impl RangeBounds<usize>, values: &[u32]) -> Result<(), Refusal> {
-        let (start, end) = self.ends(range)?;
+        let (start, end) = self.ends(range);
         let (slots, kept) = self.lent.change();
         let reply = raw::splice(slots, &mut kept.record, start, end, values);
-        kept.take_change(reply)
+        kept.take(reply)
     }
 }

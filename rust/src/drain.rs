@@ -7,6 +7,7 @@ use core::iter::FusedIterator;
 ///
 /// Where it is dropped, the drain is closed: what was not handed over leaves too, and the shorter side of the queue
 /// moves. A drain that is leaked (by `mem::forget`) counts as closed: the next call on the queue closes it first.
+/// A closing is never refused: a drain is not opened while a move into its queue is open.
 pub struct Drain<'q, 'a> {
     // It has the drain's record, by which the drain is closed.
     pub(crate) queue: &'q mut Queue<'a>,

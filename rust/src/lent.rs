@@ -44,20 +44,19 @@ pub(crate) struct Kept {
 }
 
 impl Kept {
-    /// Takes what a call answers that is never refused: the record is good.
+    /// Takes the answer of a call that changes the queue.
     #[inline]
-    pub fn take(&mut self, reply: Reply) -> Option<u32> {
-        debug_assert_eq!(reply.refused, 0);
-        self.moved = reply.moved;
-        (reply.handed == 1).then_some(reply.number)
-    }
-
-    /// Takes what a call answers that may be refused.
-    #[inline]
-    pub fn take_change(&mut self, reply: Reply) -> Result<(), Refusal> {
+    pub fn take(&mut self, reply: Reply) -> Result<(), Refusal> {
         Refusal::of(reply.refused)?;
         self.moved = reply.moved;
         Ok(())
+    }
+
+    /// Takes the answer of such a call, and gives what it handed over.
+    #[inline]
+    pub fn take_handed(&mut self, reply: Reply) -> Result<Option<u32>, Refusal> {
+        self.take(reply)?;
+        Ok((reply.handed == 1).then_some(reply.number))
     }
 }
 
@@ -197,7 +196,7 @@ mod tests {
     #[test]
     fn a_look_waits_for_the_closing() {
         let mut slots = [1, 2];
-        let lent = Lent::new(&mut slots, Record { head: 0, len: 2 }, 0);
+        let lent = Lent::new(&mut slots, Record { head: 0, len: 2, mark: 0 }, 0);
         let closed = AtomicBool::new(false);
         lent.number.store(CLOSING, Ordering::Relaxed);
         thread::scope(|scope| {

@@ -64,7 +64,7 @@ impl Queue<'_> {
     /// [`Refusal::Position`] (3) if the range ends before it starts, or past the end of the queue.
     #[inline]
     pub fn slices(&self, range: impl RangeBounds<usize>) -> Result<(&[u32], &[u32]), Refusal> {
-        let (start, end) = self.ends(range)?;
+        let (start, end) = self.ends(range);
         let (slots, kept) = self.lent.look();
         let mut runs = raw::Runs::default();
         Refusal::of(raw::slice_ranges(slots, &kept.record, start, end, &mut runs))?;

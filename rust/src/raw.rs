@@ -6,14 +6,14 @@
 //! `include/scorebucket.h`.
 use core::marker::PhantomData;
 
-/// The record of a queue: element i stands `i` slots on from `head`, round the end.
+/// The record of a queue.
 #[repr(C)]
-#[derive(Clone, Copy, Debug, Default, PartialEq, Eq, Hash)]
-pub struct Record {
-    /// The slot of the first element.
+#[derive(Clone, Copy, Debug, Default, PartialEq)]
+pub(crate) struct Record {
     pub head: usize,
-    /// How many elements there are.
     pub len: usize,
+    /// 0, or set: the calls leave 1 then.
+    pub mark: usize,
 }
 
 /// The record of an open drain.
@@ -200,6 +200,23 @@ mod exported {
             target: *mut u32,
             target_len: usize,
             t: *mut Record,
+        ) -> Reply;
+        pub fn scorebucket_move_all(
+            slots: *const u32,
+            slots_len: usize,
+            q: *mut Record,
+            target: *mut u32,
+            target_len: usize,
+            t: *mut Record,
+        ) -> Reply;
+        pub fn scorebucket_move_portion(
+            slots: *const u32,
+            slots_len: usize,
+            q: *mut Record,
+            n: usize,
+            target: *mut u32,
+            target_len: usize,
+            other: *mut Record,
         ) -> Reply;
         pub fn scorebucket_drain(
             slots: *const u32,
@@ -394,6 +411,18 @@ pub(crate) fn append(slots: &mut [u32], q: &mut Record, other_slots: &[u32], oth
 #[inline]
 pub(crate) fn split_off(slots: &[u32], q: &mut Record, at: usize, target: &mut [u32], t: &mut Record) -> Reply {
     unsafe { exported::scorebucket_split_off(slots.as_ptr(), slots.len(), q, at, target.as_mut_ptr(), target.len(), t) }
+}
+
+#[inline]
+pub(crate) fn move_all(slots: &[u32], q: &mut Record, target: &mut [u32], t: &mut Record) -> Reply {
+    unsafe { exported::scorebucket_move_all(slots.as_ptr(), slots.len(), q, target.as_mut_ptr(), target.len(), t) }
+}
+
+#[inline]
+pub(crate) fn move_portion(slots: &[u32], q: &mut Record, n: usize, target: &mut [u32], other: &mut Record) -> Reply {
+    unsafe {
+        exported::scorebucket_move_portion(slots.as_ptr(), slots.len(), q, n, target.as_mut_ptr(), target.len(), other)
+    }
 }
 
 #[inline]

@@ -18,10 +18,16 @@ pub enum Refusal {
     Room = 4,
     /// The bytes are not one whole saved image.
     Image = 5,
+    /// A move into the queue is open: the last portion that came into it left elements in the queue that they came
+    /// from. Until one comes that leaves none there, it takes nothing but portions, and can be looked at.
+    ///
+    /// Move the rest, with [`Queue::move_portion`](crate::Queue::move_portion), and call again. Where the rest is not
+    /// to come, a portion out of any empty queue ends the move.
+    MoveOpen = 6,
 }
 
 impl Refusal {
-    /// Its number, from 1 to 5.
+    /// Its number, from 1 to 6.
     pub fn number(self) -> u16 {
         self as u16
     }
@@ -44,7 +50,8 @@ impl Refusal {
             2 => Refusal::Record,
             3 => Refusal::Position,
             4 => Refusal::Room,
-            _ => Refusal::Image,
+            5 => Refusal::Image,
+            _ => Refusal::MoveOpen,
         }
     }
 }
@@ -57,6 +64,7 @@ impl fmt::Display for Refusal {
             Refusal::Position => "a position or range past the end",
             Refusal::Room => "no room",
             Refusal::Image => "bytes that are no saved image",
+            Refusal::MoveOpen => "a move into the queue is open: first move the rest there, with move_portion",
         })
     }
 }

@@ -30,7 +30,7 @@ impl PartialEq<[u32]> for Queue<'_> {
     #[inline]
     fn eq(&self, list: &[u32]) -> bool {
         // a list is a queue of its own slots; one of more than 16,000 is refused, which no queue equals
-        self.equals(list, &Record { head: 0, len: list.len() })
+        self.equals(list, &Record { head: 0, len: list.len(), mark: 0 })
     }
 }
 

@@ -1,8 +1,8 @@
 //! Every call once, on a queue whose list goes round the end.
 mod common;
 
-use common::{wrapped, LAID};
-use scorebucket::{Queue, Record, Test};
+use common::{record, wrapped, LAID};
+use scorebucket::{Queue, Test};
 
 #[test]
 fn new_is_empty() {
@@ -20,22 +20,22 @@ fn pushes_and_pops() {
     queue.push_back(50).unwrap();
     queue.push_front(5).unwrap();
     assert_eq!(queue, [5, 10, 20, 30, 40, 50]);
-    assert_eq!(queue.record(), Record { head: 3, len: 6 });
-    assert_eq!(queue.pop_front(), Some(5));
-    assert_eq!(queue.pop_back(), Some(50));
-    queue.clear();
-    assert_eq!(queue.record(), Record { head: 0, len: 0 });
-    assert_eq!((queue.pop_front(), queue.pop_back()), (None, None));
+    assert_eq!(queue.record(), record(3, 6));
+    assert_eq!(queue.pop_front(), Ok(Some(5)));
+    assert_eq!(queue.pop_back(), Ok(Some(50)));
+    queue.clear().unwrap();
+    assert_eq!(queue.record(), record(0, 0));
+    assert_eq!((queue.pop_front(), queue.pop_back()), (Ok(None), Ok(None)));
 }
 
 #[test]
 fn conditional_pops() {
     let mut slots = LAID;
     let mut queue = wrapped(&mut slots);
-    assert_eq!(queue.pop_front_if(Test::Below(10)), None);
-    assert_eq!(queue.pop_front_if(Test::AtLeast(10)), Some(10));
-    assert_eq!(queue.pop_back_if(Test::NotEqual(40)), None);
-    assert_eq!(queue.pop_back_if(Test::Equal(40)), Some(40));
+    assert_eq!(queue.pop_front_if(Test::Below(10)), Ok(None));
+    assert_eq!(queue.pop_front_if(Test::AtLeast(10)), Ok(Some(10)));
+    assert_eq!(queue.pop_back_if(Test::NotEqual(40)), Ok(None));
+    assert_eq!(queue.pop_back_if(Test::Equal(40)), Ok(Some(40)));
     assert_eq!(queue, [20, 30]);
 }
 
@@ -57,8 +57,8 @@ fn looks() {
 fn cuts() {
     let mut slots = LAID;
     let mut queue = wrapped(&mut slots);
-    queue.truncate(3);
-    queue.truncate_front(2);
+    queue.truncate(3).unwrap();
+    queue.truncate_front(2).unwrap();
     assert_eq!(queue, [20, 30]);
 }
 
@@ -69,9 +69,9 @@ fn swaps() {
     queue.swap(0, 3).unwrap();
     assert_eq!(queue, [40, 20, 30, 10]);
     assert_eq!(queue.moved(), 2);
-    assert_eq!(queue.swap_remove_front(2), Some(30));
+    assert_eq!(queue.swap_remove_front(2), Ok(Some(30)));
     assert_eq!(queue, [20, 40, 10]);
-    assert_eq!(queue.swap_remove_back(0), Some(20));
+    assert_eq!(queue.swap_remove_back(0), Ok(Some(20)));
     assert_eq!(queue, [10, 40]);
 }
 
@@ -82,8 +82,8 @@ fn middle() {
     queue.insert(1, 15).unwrap();
     assert_eq!(queue, [10, 15, 20, 30, 40]);
     assert_eq!(queue.moved(), 1);
-    assert_eq!((queue.remove(3), queue.moved()), (Some(30), 1));
-    queue.retain(Test::NotEqual(15));
+    assert_eq!((queue.remove(3), queue.moved()), (Ok(Some(30)), 1));
+    queue.retain(Test::NotEqual(15)).unwrap();
     assert_eq!(queue, [10, 20, 40]);
     assert_eq!(queue.moved(), 2);
 }
@@ -92,7 +92,7 @@ fn middle() {
 fn lent_values() {
     let mut slots = LAID;
     let mut queue = wrapped(&mut slots);
-    queue.truncate(1);
+    queue.truncate(1).unwrap();
     queue.extend(&[1, 2]).unwrap();
     queue.prepend(&[3]).unwrap();
     queue.extend_front(&[4, 5]).unwrap();
@@ -107,7 +107,7 @@ fn two_queues() {
     let (mut slots, mut others) = (LAID, LAID);
     let mut queue = wrapped(&mut slots);
     let mut other = wrapped(&mut others);
-    queue.truncate(2);
+    queue.truncate(2).unwrap();
     queue.append(&mut other).unwrap();
     assert_eq!(queue, [10, 20, 10, 20, 30, 40]);
     assert!(other.is_empty());
@@ -126,7 +126,7 @@ fn moved_of_two_queues() {
     let mut other = wrapped(&mut others);
     queue.swap(0, 1).unwrap();
     other.swap(0, 1).unwrap();
-    queue.truncate_front(1);
+    queue.truncate_front(1).unwrap();
     assert_eq!((queue.moved(), other.moved()), (0, 2));
     queue.append(&mut other).unwrap();
     assert_eq!((queue.moved(), other.moved()), (4, 4));

@@ -1,8 +1,8 @@
 //! A leaked drain counts as closed: whatever the next call is, it does the same as after a drain that was dropped.
 mod common;
 
-use common::{wrapped, LAID};
-use scorebucket::{Queue, Record, Test};
+use common::{record, wrapped, LAID};
+use scorebucket::{Queue, Test};
 use std::collections::VecDeque;
 use std::hash::{BuildHasher, BuildHasherDefault, DefaultHasher};
 use std::panic::{catch_unwind, AssertUnwindSafe};
@@ -27,7 +27,7 @@ fn with_other(call: impl FnOnce(&mut Queue<'_>) -> String) -> String {
 }
 
 /// Every method and trait of a queue.
-const CALLS: [(&str, Call); 54] = [
+const CALLS: [(&str, Call); 58] = [
     ("len", |q| text!(q.len())),
     ("is_empty", |q| text!(q.is_empty())),
     ("capacity", |q| text!(q.capacity())),
@@ -82,6 +82,13 @@ const CALLS: [(&str, Call); 54] = [
         let mut target = [0; 4];
         text!(q.split_off(1, &mut target).map(|split| (split.record(), split.moved())), target)
     }),
+    ("is_move_open", |q| text!(q.is_move_open())),
+    ("move_into", |q| {
+        let mut target = [0; 4];
+        text!(q.move_into(&mut target).map(|moved| (moved.record(), moved.moved())), target)
+    }),
+    ("move_portion", |q| with_other(|other| text!(q.move_portion(1, other)))),
+    ("move_portion, as the target", |q| with_other(|other| text!(other.move_portion(1, q)))),
     ("drain", |q| text!(q.drain(1..).map(|drain| drain.collect::<Vec<_>>()))),
     ("drain, dropped at once", |q| text!(q.drain(..1).map(drop))),
     ("drain, leaked again", |q| text!(q.drain(..1).map(mem::forget))),
@@ -163,9 +170,9 @@ fn the_record_that_is_taken_out_is_the_closed_one() {
     let mut slots = LAID;
     let mut queue = wrapped(&mut slots);
     left(&mut queue, 1, 3, 1, 0, true);
-    let record = queue.record();
-    assert_eq!(record, Record { head: 4, len: 2 });
-    assert_eq!(Queue::with_record(&mut slots, record).unwrap(), [10, 40]);
+    let closed = queue.record();
+    assert_eq!(closed, record(4, 2));
+    assert_eq!(Queue::with_record(&mut slots, closed).unwrap(), [10, 40]);
 }
 
 #[test]
@@ -181,7 +188,7 @@ fn a_queue_may_end_with_it() {
 fn two_threads_look_at_once() {
     for turn in 0..100 {
         let mut slots: Vec<u32> = (0..16_000).collect();
-        let mut queue = Queue::with_record(&mut slots, Record { head: 0, len: 16_000 }).unwrap();
+        let mut queue = Queue::with_record(&mut slots, record(0, 16_000)).unwrap();
         left(&mut queue, 7_999, 8_001, 1, 0, true);
         let (queue, ready) = (&queue, &AtomicUsize::new(0));
         let look = |by_slices| {

@@ -62,20 +62,20 @@ fn step(random: &mut Random, queue: &mut Queue<'_>, model: &mut VecDeque<u32>) {
     let v = random.number();
     let test = random.test();
     let values = random.numbers(cap / 2 + 1);
-    match random.below(26) {
+    match random.below(28) {
         0 | 1 => assert_eq!(queue.push_back(v), if_room(model, cap, 1, |m| m.push_back(v))),
         2 | 3 => assert_eq!(queue.push_front(v), if_room(model, cap, 1, |m| m.push_front(v))),
-        4 => assert_eq!(queue.pop_front(), model.pop_front()),
-        5 => assert_eq!(queue.pop_back(), model.pop_back()),
+        4 => assert_eq!(queue.pop_front(), Ok(model.pop_front())),
+        5 => assert_eq!(queue.pop_back(), Ok(model.pop_back())),
         6 => {
             let met = model.front().is_some_and(|x| meets(test, *x));
             let popped = if met { model.pop_front() } else { None };
-            assert_eq!(queue.pop_front_if(test), popped);
+            assert_eq!(queue.pop_front_if(test), Ok(popped));
         }
         7 => {
             let met = model.back().is_some_and(|x| meets(test, *x));
             let popped = if met { model.pop_back() } else { None };
-            assert_eq!(queue.pop_back_if(test), popped);
+            assert_eq!(queue.pop_back_if(test), Ok(popped));
         }
         8 => {
             let expected = match i {
@@ -84,7 +84,7 @@ fn step(random: &mut Random, queue: &mut Queue<'_>, model: &mut VecDeque<u32>) {
             };
             assert_eq!(queue.insert(i, v), expected);
         }
-        9 => assert_eq!(queue.remove(i), model.remove(i)),
+        9 => assert_eq!(queue.remove(i), Ok(model.remove(i))),
         10 => {
             let expected = match i.max(j) < model.len() {
                 true => {
@@ -95,10 +95,10 @@ fn step(random: &mut Random, queue: &mut Queue<'_>, model: &mut VecDeque<u32>) {
             };
             assert_eq!(queue.swap(i, j), expected);
         }
-        11 => assert_eq!(queue.swap_remove_front(i), model.swap_remove_front(i)),
-        12 => assert_eq!(queue.swap_remove_back(i), model.swap_remove_back(i)),
+        11 => assert_eq!(queue.swap_remove_front(i), Ok(model.swap_remove_front(i))),
+        12 => assert_eq!(queue.swap_remove_back(i), Ok(model.swap_remove_back(i))),
         13 => {
-            queue.retain(test);
+            queue.retain(test).unwrap();
             model.retain(|x| meets(test, *x));
         }
         14 => {
@@ -122,11 +122,11 @@ fn step(random: &mut Random, queue: &mut Queue<'_>, model: &mut VecDeque<u32>) {
             assert_eq!(queue.resize(j, v), expected);
         }
         18 => {
-            queue.truncate(i);
+            queue.truncate(i).unwrap();
             model.truncate(i);
         }
         19 => {
-            queue.truncate_front(i);
+            queue.truncate_front(i).unwrap();
             model.drain(..model.len().saturating_sub(i));
         }
         20 => drain(random, queue, model, i, j),
@@ -134,8 +134,10 @@ fn step(random: &mut Random, queue: &mut Queue<'_>, model: &mut VecDeque<u32>) {
         22 => append(queue, model, &values),
         23 => split_off(queue, model, i),
         24 => save(queue),
+        25 => portions(random, queue, model),
+        26 => move_into(random, queue, model),
         _ => {
-            queue.clear();
+            queue.clear().unwrap();
             model.clear();
         }
     }
@@ -202,6 +204,40 @@ fn split_off(queue: &mut Queue<'_>, model: &mut VecDeque<u32>, i: usize) {
             assert_eq!(refusal, Refusal::Room);
             assert!(model.len() - i > cap);
         }
+    }
+}
+
+/// Moves a few portions into another queue, which is looked at in between, beside `drain(..n)` into `extend`.
+fn portions(random: &mut Random, queue: &mut Queue<'_>, model: &mut VecDeque<u32>) {
+    let values = random.numbers(4);
+    let cap = values.len() + random.below(model.len() + 3);
+    let mut slots = vec![0; cap];
+    let mut target = laid(&mut slots, &values, values.len() / 2);
+    let mut theirs = VecDeque::from(values);
+    let mut open = false;
+    for _ in 0..=random.below(4) {
+        let n = random.below(model.len() + 2);
+        let k = n.min(model.len());
+        let expected = if_room(&mut theirs, cap, k, |m| m.extend(model.drain(..k)));
+        assert_eq!(queue.move_portion(n, &mut target), expected);
+        if expected.is_ok() {
+            open = !model.is_empty();
+            assert_eq!((queue.moved(), target.moved()), (k, k));
+        }
+        assert_eq!(target.is_move_open(), open);
+        assert_eq!(target.truncate(cap).is_err(), open);
+        check(queue, model);
+        check(&target, &theirs);
+    }
+}
+
+/// Moves all into other slots, and goes on with what that leaves.
+fn move_into(random: &mut Random, queue: &mut Queue<'_>, model: &mut VecDeque<u32>) {
+    let mut slots = vec![0; random.below(queue.capacity() + 2)];
+    let expected = if_room(&mut VecDeque::new(), slots.len(), model.len(), |_| mem::take(model));
+    match (queue.move_into(&mut slots), expected) {
+        (Ok(moved), Ok(theirs)) => check(&moved, &theirs),
+        (ours, theirs) => assert_eq!(ours.err(), theirs.err()),
     }
 }
 

@@ -1,7 +1,7 @@
 //! What is refused, and that nothing has changed then.
 mod common;
 
-use common::{wrapped, LAID, WRAPPED};
+use common::{record, wrapped, LAID, WRAPPED};
 use scorebucket::{Queue, Record, Refusal};
 use std::error::Error;
 
@@ -21,7 +21,7 @@ fn too_many_slots() {
     let mut slots = vec![0; 16_001];
     assert_eq!(Queue::new(&mut slots).err(), Some(Refusal::Slots));
     // asked before the record, and before the image
-    assert_eq!(Queue::with_record(&mut slots, Record { head: 16_001, len: 0 }).err(), Some(Refusal::Slots));
+    assert_eq!(Queue::with_record(&mut slots, record(16_001, 0)).err(), Some(Refusal::Slots));
     assert_eq!(Queue::read_image(&mut slots, &[]).err(), Some(Refusal::Slots));
     refused(WRAPPED, Refusal::Slots, |q| q.split_off(5, &mut slots).map(|_| ()));
     assert!(Queue::new(&mut slots[..16_000]).is_ok());
@@ -31,11 +31,11 @@ fn too_many_slots() {
 fn records_that_are_not_good() {
     for (head, len) in [(6, 0), (0, 7), (usize::MAX, 0), (0, usize::MAX), (usize::MAX, usize::MAX)] {
         let mut slots = LAID;
-        assert_eq!(Queue::with_record(&mut slots, Record { head, len }).err(), Some(Refusal::Record));
+        assert_eq!(Queue::with_record(&mut slots, record(head, len)).err(), Some(Refusal::Record));
     }
-    assert_eq!(Queue::with_record(&mut [], Record { head: 1, len: 0 }).err(), Some(Refusal::Record));
-    assert!(Queue::with_record(&mut [], Record { head: 0, len: 0 }).is_ok());
-    assert!(Queue::with_record(&mut LAID.clone(), Record { head: 5, len: 6 }).is_ok());
+    assert_eq!(Queue::with_record(&mut [], record(1, 0)).err(), Some(Refusal::Record));
+    assert!(Queue::with_record(&mut [], record(0, 0)).is_ok());
+    assert!(Queue::with_record(&mut LAID.clone(), record(5, 6)).is_ok());
 }
 
 #[test]
@@ -53,7 +53,7 @@ fn positions() {
 
 #[test]
 fn room() {
-    let full = Record { head: 4, len: 6 };
+    let full = record(4, 6);
     refused(full, Refusal::Room, |q| q.push_back(1));
     refused(full, Refusal::Room, |q| q.push_front(1));
     refused(full, Refusal::Room, |q| q.insert(3, 1));
@@ -75,7 +75,7 @@ fn room() {
 
 #[test]
 fn a_position_is_asked_before_room() {
-    let full = Record { head: 4, len: 6 };
+    let full = record(4, 6);
     refused(full, Refusal::Position, |q| q.insert(7, 1));
     refused(full, Refusal::Position, |q| q.splice(6..7, &[1, 2]));
     refused(full, Refusal::Position, |q| q.split_off(7, &mut []).map(|_| ()));
@@ -94,8 +94,8 @@ fn images_that_are_none() {
 
 #[test]
 fn a_refusal_is_an_error_with_a_number() {
-    let all = [Refusal::Slots, Refusal::Record, Refusal::Position, Refusal::Room, Refusal::Image];
-    assert_eq!(all.map(Refusal::number), [1, 2, 3, 4, 5]);
+    use Refusal::*;
+    assert_eq!([Slots, Record, Position, Room, Image, MoveOpen].map(Refusal::number), [1, 2, 3, 4, 5, 6]);
     let refusal: Box<dyn Error> = Box::new(Refusal::Room);
     assert_eq!(refusal.to_string(), "no room");
 }

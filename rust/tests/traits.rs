@@ -22,7 +22,7 @@ fn shows_itself_as_a_list() {
     let mut queue = wrapped(&mut slots);
     assert_eq!(format!("{queue:?}"), "[10, 20, 30, 40]");
     assert_eq!(format!("{:?}", queue.drain(1..)), "Ok(Drain { remaining: 3, .. })");
-    queue.clear();
+    queue.clear().unwrap();
     assert_eq!(format!("{queue:?}"), "[]");
 }
 
@@ -60,7 +60,7 @@ fn ordered_as_lists_are() {
     let queue = wrapped(&mut slots);
     let mut other = straight(&mut others);
     assert_eq!(queue.cmp(&other), Ordering::Equal);
-    other.truncate(3);
+    other.truncate(3).unwrap();
     assert!(queue > other);
     other.push_back(41).unwrap();
     assert!(queue < other);

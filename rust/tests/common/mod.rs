@@ -5,7 +5,12 @@ use scorebucket::{Queue, Record};
 pub const LAID: [u32; 6] = [30, 40, 7, 8, 10, 20];
 
 /// Its record.
-pub const WRAPPED: Record = Record { head: 4, len: 4 };
+pub const WRAPPED: Record = record(4, 4);
+
+/// A record without a mark.
+pub const fn record(head: usize, len: usize) -> Record {
+    Record { head, len, mark: false }
+}
 
 /// The queue, laid into the slots.
 pub fn wrapped(slots: &mut [u32; 6]) -> Queue<'_> {
