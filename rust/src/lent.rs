@@ -4,20 +4,20 @@
 //! A drain that is leaked (by `mem::forget`) can't close itself, so the next call closes it, whichever it is. A look
 //! has `&self`, and a closing moves elements: so the slots stand behind a pointer, and what is kept in a cell.
 //!
-//! While a drain is open, a mark stands in the place of the number of slots: one that there can't be. Most calls ask
-//! for it. A look for one element would be slowed by asking: it gives the archive whatever number it finds, and the
-//! archive refuses a mark (with 1), as it is proved to. Only then is a drain closed and the look made again.
+//! While a drain is open, a flag stands in the place of the number of slots: a number that there can't be. Most calls
+//! ask for it. A look for one element would be slowed by asking: it gives the archive whatever number it finds, and the
+//! archive refuses a flag (with 1), as it is proved to. Only then is a drain closed and the look made again.
 //!
 //! Why that is sound:
 //! - The pointer comes from the `&'a mut [u32]` that was lent: for `'a`, only this queue reads and writes the slots.
 //! - A call with `&mut self` is alone with the queue: whatever references earlier calls gave are not used any more.
-//! - Calls with `&self` only read, but for the one that makes the mark DRAINING into CLOSING. Until it has taken that
-//!   mark off, every other call with `&self` waits; and none before it has given a reference since the drain was
+//! - Calls with `&self` only read, but for the one that makes the flag DRAINING into CLOSING. Until it has taken that
+//!   flag off, every other call with `&self` waits; and none before it has given a reference since the drain was
 //!   opened, for it would have closed the drain itself. A drain is opened with `&mut self`, so once a call with `&self`
-//!   sees no mark, nothing is written as long as the reference that it gives is used.
-//! - A look for one element that gives the archive a mark gives it pointers and no references, and 1 is the first that
+//!   sees no flag, nothing is written as long as the reference that it gives is used.
+//! - A look for one element that gives the archive a flag gives it pointers and no references, and 1 is the first that
 //!   the archive asks: it reads neither a slot nor the record.
-//! - A mark is taken off with `Release` and read with `Acquire`: who sees none sees the elements in their new places.
+//! - A flag is taken off with `Release` and read with `Acquire`: who sees none sees the elements in their new places.
 use crate::raw::{self, FoundReply, Record, Reply, Seen};
 use crate::Refusal;
 use core::cell::UnsafeCell;
@@ -27,7 +27,7 @@ use core::ptr::{addr_of, NonNull};
 use core::slice;
 use core::sync::atomic::{AtomicUsize, Ordering};
 
-/// The most slots of a queue. What is above is a mark:
+/// The most slots of a queue. What is above is a flag:
 const MOST_SLOTS: usize = 16_000;
 /// A drain is open, or was leaked.
 const DRAINING: usize = usize::MAX;
@@ -63,8 +63,8 @@ impl Kept {
 /// The lent slots and what is kept beside them. The record is good for the slots.
 pub(crate) struct Lent<'a> {
     slots: NonNull<[u32]>,
-    /// The number of the slots, or a mark while a drain is open. A call needs the number in any case, so that asking
-    /// for a mark costs it one comparison and no load.
+    /// The number of the slots, or a flag while a drain is open. A call needs the number in any case, so that asking
+    /// for a flag costs it one comparison and no load.
     number: AtomicUsize,
     kept: UnsafeCell<Kept>,
     borrow: PhantomData<&'a mut [u32]>,
@@ -85,11 +85,11 @@ impl<'a> Lent<'a> {
         }
     }
 
-    /// Looks for one element: first without asking for a mark.
+    /// Looks for one element: first without asking for a flag.
     #[inline]
     pub fn find(&self, look: impl Fn(Seen<'_>) -> FoundReply) -> Option<u32> {
         let number = self.number.load(Ordering::Acquire);
-        // SAFETY: it is a mark, above 16,000, or the number of the slots, and nothing is written while `&self` is used.
+        // SAFETY: it is a flag, above 16,000, or the number of the slots, and nothing is written while `&self` is used.
         let reply = look(unsafe { Seen::at(self.slots.cast().as_ptr(), number, addr_of!((*self.kept.get()).record)) });
         if let Some(x) = reply.given() {
             return Some(x);
@@ -108,7 +108,7 @@ impl<'a> Lent<'a> {
         if number > MOST_SLOTS {
             number = self.close_leaked();
         }
-        // SAFETY: it is no mark but the number of the slots, and nothing is written while `&self` is used.
+        // SAFETY: it is no flag but the number of the slots, and nothing is written while `&self` is used.
         unsafe { (slice::from_raw_parts(self.slots.cast().as_ptr(), number), &*self.kept.get()) }
     }
 
@@ -119,7 +119,7 @@ impl<'a> Lent<'a> {
         if number > MOST_SLOTS {
             number = self.close_leaked();
         }
-        // SAFETY: it is no mark but the number of the slots, and `&mut self` is the only way to them.
+        // SAFETY: it is no flag but the number of the slots, and `&mut self` is the only way to them.
         (unsafe { slice::from_raw_parts_mut(self.slots.cast().as_ptr(), number) }, self.kept.get_mut())
     }
 
