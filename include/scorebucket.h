@@ -31,9 +31,9 @@
  * `moved` is how many elements stand in another slot now, those that went from one queue to another among them.
  *
  * REFUSALS are asked in the order of their numbers, but for 6, which comes right behind 2, and the first that holds is
- * given. 6 is refused by every call that can change the queue's list or record, whatever it would do this time, and by
- * none that only looks. What a call refuses beside 1, 2 and 6 is said of each. A call on two queues asks these of the
- * first, then of the second, then the rest. */
+ * given. 6 is refused by every call that can change the queue's list or record, whatever it would do this time: not by
+ * one that only looks, and not of slots over which a new record is made. What a call refuses beside 1, 2 and 6 is said
+ * of each. A call on two queues asks these of the first, then of the second, then the rest. */
 #ifndef SCOREBUCKET_H
 #define SCOREBUCKET_H
 
