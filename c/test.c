@@ -1,74 +1,16 @@
-/* The exported calls from C and from C++: each once, refusals that change nothing, and empty slices that are NULL.
- * Prints 'ok', or the line of each test that failed. */
-#include "scorebucket.h"
+/* The exported calls from C and from C++: each once (the moves in c/moves.c), refusals that change nothing, and empty
+ * slices that are NULL. Prints 'ok', or the line of each test that failed. */
+#include "expect.h"
 
-#include <stdio.h>
-#include <string.h>
+/* The tests of c/moves.c. */
+void test_all_moves(void);
 
-/* In C++ a struct goes by its bare name, unless a function bears it too. */
-#ifdef __cplusplus
-#define STRUCT(name) name
-#else
-#define STRUCT(name) struct name
-#endif
-typedef STRUCT(scorebucket_deque) deque;
-typedef STRUCT(scorebucket_open_drain) open_drain;
-typedef STRUCT(scorebucket_walk) walk;
-typedef STRUCT(scorebucket_span) span;
-typedef STRUCT(scorebucket_runs) runs;
-typedef STRUCT(scorebucket_reply) reply;
-typedef STRUCT(scorebucket_found_reply) found_reply;
-typedef STRUCT(scorebucket_truth_reply) truth_reply;
-typedef STRUCT(scorebucket_order_reply) order_reply;
-typedef STRUCT(scorebucket_search_reply) search_reply;
-typedef STRUCT(scorebucket_count_reply) count_reply;
-
-static int failed = 0;
-
-static void expect(bool met, int line)
-{
-    if (!met) {
-        printf("c/test.c:%d: not met\n", line);
-        failed = 1;
-    }
-}
-#define EXPECT(met) expect((met), __LINE__)
-
-/* The queue holds these numbers in this order. */
-static bool holds(const uint32_t *slots, size_t cap, deque q, const uint32_t *numbers, size_t n)
-{
-    if (q.len != n) return false;
-    for (size_t i = 0; i < n; i++) {
-        found_reply s = scorebucket_get(slots, cap, &q, i);
-        if (s.refused || !s.found || s.number != numbers[i]) return false;
-    }
-    return true;
-}
-#define EXPECT_LIST(slots, q, ...) \
-    do { \
-        static const uint32_t numbers[] = {__VA_ARGS__}; \
-        EXPECT(holds(slots, sizeof slots / sizeof slots[0], q, numbers, sizeof numbers / sizeof numbers[0])); \
-    } while (0)
-
-/* A queue of six slots whose list 10, 20, 30, 40 goes round the end: head 4. */
-static deque wrapped(uint32_t *slots)
-{
-    static const uint32_t laid[6] = {30, 40, 7, 8, 10, 20};
-    deque q = {4, 4};
-    memcpy(slots, laid, sizeof laid);
-    return q;
-}
-
-/* The same record. */
-static bool same(deque q, size_t head, size_t len)
-{
-    return q.head == head && q.len == len;
-}
+int failed = 0;
 
 static void test_ends(void)
 {
     uint32_t s[6] = {0};
-    deque q = {9, 9};
+    deque q = {9, 9, 9};
     reply r = scorebucket_fresh(s, 6, &q);
     EXPECT(r.refused == 0 && r.moved == 0 && same(q, 0, 0));
     q = wrapped(s);
@@ -137,7 +79,7 @@ static void test_middle(void)
 static void test_joins(void)
 {
     uint32_t s[6], t[6], more[2] = {50, 60};
-    deque q = wrapped(s), other = wrapped(t), target = {1, 2};
+    deque q = wrapped(s), other = wrapped(t), target = {1, 2, 7};
     EXPECT(scorebucket_extend(s, 6, &q, more, 2).refused == 0);
     EXPECT_LIST(s, q, 10, 20, 30, 40, 50, 60);
     q = wrapped(s);
@@ -157,9 +99,9 @@ static void test_joins(void)
     EXPECT(r.refused == 0 && r.moved == 4 && same(other, 0, 0));
     EXPECT_LIST(s, q, 10, 20, 10, 20, 30, 40);
     r = scorebucket_split_off(s, 6, &q, 7, t, 6, &target);
-    EXPECT(r.refused == SCOREBUCKET_POSITION && same(q, 4, 6) && same(target, 1, 2));
+    EXPECT(r.refused == SCOREBUCKET_POSITION && same(q, 4, 6) && marked(target, 1, 2, 7));
     r = scorebucket_split_off(s, 6, &q, 4, t, 6, &target);
-    EXPECT(r.refused == 0 && r.moved == 2 && target.head == 0);
+    EXPECT(r.refused == 0 && r.moved == 2 && same(target, 0, 2));
     EXPECT_LIST(s, q, 10, 20, 10, 20);
     EXPECT_LIST(t, target, 30, 40);
 }
@@ -222,7 +164,7 @@ static void test_looks(void)
 static void test_walks(void)
 {
     uint32_t s[6];
-    deque q = wrapped(s), bad = {6, 0};
+    deque q = wrapped(s), bad = {6, 0, 0};
     walk w;
     EXPECT(scorebucket_begin_walk(s, 6, &q, &w) == 0 && same(w.queue, 4, 4) && w.low == 0 && w.high == 4);
     found_reply r = scorebucket_walk_next(s, 6, &w);
@@ -242,12 +184,12 @@ static void test_images(void)
 {
     uint32_t s[6], t[4] = {0};
     uint8_t bytes[19];
-    deque q = wrapped(s), m = {1, 1};
+    deque q = wrapped(s), m = {1, 1, 7};
     EXPECT(scorebucket_write_image(s, 6, &q, bytes, 18).refused == SCOREBUCKET_ROOM);
     EXPECT(scorebucket_write_image(s, 6, &q, bytes, 19).count == 19);
-    EXPECT(scorebucket_read_image(t, 3, &m, bytes, 19).refused == SCOREBUCKET_ROOM && same(m, 1, 1));
-    EXPECT(scorebucket_read_image(t, 4, &m, bytes, 18).refused == SCOREBUCKET_IMAGE && same(m, 1, 1));
-    EXPECT(scorebucket_read_image(t, 4, &m, bytes, 19).refused == 0 && m.head == 0);
+    EXPECT(scorebucket_read_image(t, 3, &m, bytes, 19).refused == SCOREBUCKET_ROOM && marked(m, 1, 1, 7));
+    EXPECT(scorebucket_read_image(t, 4, &m, bytes, 18).refused == SCOREBUCKET_IMAGE && marked(m, 1, 1, 7));
+    EXPECT(scorebucket_read_image(t, 4, &m, bytes, 19).refused == 0 && same(m, 0, 4));
     EXPECT_LIST(t, m, 10, 20, 30, 40);
 }
 
@@ -278,7 +220,7 @@ static void test_null_slots(void)
 {
     uint32_t s[6], one[1] = {1};
     uint8_t bytes[3];
-    deque q = {7, 7}, other = {0, 0}, t = {7, 7};
+    deque q = {7, 7, 7}, other = {0, 0, 0}, t = {7, 7, 7};
     open_drain d;
     walk w;
     runs g = {{9, 9}, {9, 9}};
@@ -305,6 +247,8 @@ static void test_null_slots(void)
     EXPECT(scorebucket_resize(NULL, 0, &q, 0, 1).refused == 0);
     EXPECT(scorebucket_append(NULL, 0, &q, NULL, 0, &other).refused == 0 && same(other, 0, 0));
     EXPECT(scorebucket_split_off(NULL, 0, &q, 0, NULL, 0, &t).refused == 0 && same(t, 0, 0));
+    EXPECT(scorebucket_move_all(NULL, 0, &q, NULL, 0, &t).refused == 0 && same(t, 0, 0));
+    EXPECT(scorebucket_move_portion(NULL, 0, &q, 1, NULL, 0, &other).refused == 0 && same(other, 0, 0));
     EXPECT(scorebucket_drain(NULL, 0, &q, 0, 0, &d).refused == 0);
     EXPECT(scorebucket_drain_next(NULL, 0, &d).handed == 0 && scorebucket_drain_next_back(NULL, 0, &d).handed == 0);
     EXPECT(scorebucket_drain_close(NULL, 0, &d, &q).refused == 0 && same(q, 0, 0));
@@ -323,6 +267,9 @@ static void test_null_slots(void)
     EXPECT(scorebucket_append(s, 6, &q, NULL, 0, &other).refused == 0);
     EXPECT(scorebucket_split_off(s, 6, &q, 4, NULL, 0, &t).refused == 0 && same(t, 0, 0));
     EXPECT(scorebucket_split_off(s, 6, &q, 3, NULL, 0, &t).refused == SCOREBUCKET_ROOM);
+    EXPECT(scorebucket_move_all(s, 6, &q, NULL, 0, &t).refused == SCOREBUCKET_ROOM);
+    EXPECT(scorebucket_move_portion(s, 6, &q, 1, NULL, 0, &other).refused == SCOREBUCKET_ROOM);
+    EXPECT(scorebucket_move_portion(NULL, 0, &other, 1, s, 6, &q).refused == 0 && same(q, 4, 4));
     EXPECT(!scorebucket_eq(s, 6, &q, NULL, 0, &other).is);
     EXPECT(scorebucket_cmp(s, 6, &q, NULL, 0, &other).order == SCOREBUCKET_GREATER);
     EXPECT_LIST(s, q, 10, 20, 30, 40);
@@ -356,6 +303,7 @@ int main(void)
     test_refusals();
     test_null_slots();
     test_null_values();
+    test_all_moves();
     if (!failed) printf("ok\n");
     return failed;
 }

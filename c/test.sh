@@ -1,12 +1,12 @@
 #!/bin/sh
-# Makes the archive of the exported calls, where a source has changed, and runs c/test.c over it: as C11 and as C++11,
-# by gcc and by clang, as far as they are there, and with their sanitizers of addresses and of undefined behaviour.
-# Every warning is an error. The last line is 'ok'.
+# Makes the archive of the exported calls, where a source has changed, and runs the tests over it, c/test.c and
+# c/moves.c: as C11 and as C++11, by gcc and by clang, as far as they are there, and with their sanitizers of addresses
+# and of undefined behaviour. Every warning is an error. The last line is 'ok'.
 # With SCOREBUCKET_ARCHIVE set, that archive is taken as it is. With CC or CXX set, these alone are tried, without
 # sanitizers: the C or the C++ compiler and its words. RUN: what runs the program, if it is not for this machine.
 # For Arm on x86-64, with Debian's gcc-aarch64-linux-gnu and qemu-user:
 #   TARGET=aarch64 CC='aarch64-linux-gnu-gcc -static' RUN=qemu-aarch64 sh c/test.sh
-# Status: 0 all held; 1 a test failed, or a compiler refused it; 2 something is missing.
+# Status: 0 all held; 1 a test failed, or a compiler refused them; 2 something is missing.
 set -eu
 cd "$(dirname "$0")/.."
 if [ -z "${SCOREBUCKET_ARCHIVE:-}" ]; then
@@ -17,13 +17,14 @@ fi
 [ -f "$SCOREBUCKET_ARCHIVE" ] || { echo "c/test.sh: there is no archive $SCOREBUCKET_ARCHIVE" >&2; exit 2; }
 
 tried=0
-# Compiles c/test.c by these words, and runs it.
+# Compiles the tests by these words, and runs them.
 try() { # COMPILER LANGUAGE WORDS..
     compiler=$1 language=$2
     shift 2
     # the compiler may be several words
-    $compiler -x "$language" "$@" -Wall -Wextra -pedantic -Werror -Iinclude c/test.c -x none "$SCOREBUCKET_ARCHIVE" \
-        -o target/c-test || { echo "c/test.sh: $compiler $* refused c/test.c" >&2; exit 1; }
+    $compiler -x "$language" "$@" -Wall -Wextra -pedantic -Werror -Iinclude c/test.c c/moves.c \
+        -x none "$SCOREBUCKET_ARCHIVE" -o target/c-test ||
+        { echo "c/test.sh: $compiler $* refused the tests" >&2; exit 1; }
     ${RUN:-} target/c-test >target/c-test.said || {
         cat target/c-test.said
         echo "c/test.sh: a test failed, compiled by $compiler $*" >&2

@@ -4,10 +4,15 @@
  * this page tells in words (the contracts stand in crates/exports_.., src), for any record and any numbers: what can't
  * be done is refused, and nothing past the slots is read or written.
  *
- * THE QUEUE is an array of slots and a record {head, len}. The number of slots, `cap` below, is its capacity. The first
- * element, at position 0, stands in slot `head`, the later ones in the slots behind it, and behind the last slot comes
- * slot 0 again. Every call takes the record's address, and a call that changes the queue changes its record there: a
- * copy of the record from before such a call is of no use any more.
+ * THE QUEUE is an array of slots and a record {head, len, mark}. The number of slots, `cap` below, is its capacity. The
+ * first element, at position 0, stands in slot `head`, the later ones in the slots behind it, and behind the last slot
+ * comes slot 0 again. Every call takes the record's address, and a call that changes the queue changes its record
+ * there: a copy of the record from before such a call is of no use any more. A record of all zeros is an empty queue's.
+ *
+ * THE MARK is 0, but for a queue that another one is being moved into by portions. `scorebucket_move_portion` alone
+ * sets it, to 1: elements are still to come, and the queue can be looked at but not changed. The portion that leaves
+ * the old queue empty makes it 0 again, and a call that makes a new record makes one without the mark. Any number but
+ * 0 counts as set.
  *
  * MEMORY is the caller's: slots, records and whatever else a pointer leads to. Nothing is allocated or freed, and no
  * pointer is kept: a call uses its pointers until it returns. Calls on different slots and records may run at the same
@@ -25,8 +30,10 @@
  * answer is 0. `handed` is 1 where `number` was handed over; where there was none, both are 0, and nothing is changed.
  * `moved` is how many elements stand in another slot now, those that went from one queue to another among them.
  *
- * REFUSALS are asked in the order of their numbers, and the first that holds is given. What a call refuses beside 1 and
- * 2 is said of each. A call on two queues asks 1 and 2 of the first, then of the second, then the rest. */
+ * REFUSALS are asked in the order of their numbers, but for 6, which comes right behind 2, and the first that holds is
+ * given. 6 is refused by every call that can change the queue's list or record, whatever it would do this time: not by
+ * one that only looks, and not of slots over which a new record is made. What a call refuses beside 1, 2 and 6 is said
+ * of each. A call on two queues asks these of the first, then of the second, then the rest. */
 #ifndef SCOREBUCKET_H
 #define SCOREBUCKET_H
 
@@ -52,7 +59,10 @@ enum scorebucket_refusal {
     /* The elements would be more than the slots that are to hold them, or the bytes more than the target's. */
     SCOREBUCKET_ROOM = 4,
     /* The bytes are no image. */
-    SCOREBUCKET_IMAGE = 5
+    SCOREBUCKET_IMAGE = 5,
+    /* The queue's mark is set: another queue is being moved into it. Go on with `scorebucket_move_portion` from the old
+     * queue until that is empty, and then make the call again. */
+    SCOREBUCKET_OPEN = 6
 };
 
 /* What a test asks of an element, beside the number k. Another kind is refused with SCOREBUCKET_POSITION. */
@@ -66,9 +76,10 @@ enum scorebucket_test {
 /* How two lists stand to each other; 0 where the call was refused. */
 enum scorebucket_order { SCOREBUCKET_LESS = 1, SCOREBUCKET_SAME = 2, SCOREBUCKET_GREATER = 3 };
 
-/* The record of a queue: where its first element stands, and how many there are. */
+/* The record of a queue: where its first element stands, how many there are, and the mark: 0 where no move into the
+ * queue is open. */
 struct scorebucket_deque {
-    size_t head, len;
+    size_t head, len, mark;
 };
 
 /* The record of an open drain: `start` elements stand in front of it and `tail_len` behind; of its `drain_len` elements
@@ -134,7 +145,8 @@ struct scorebucket_count_reply {
 /* Makes *q an empty queue over the slots. Refusal: 1 alone. */
 struct scorebucket_reply scorebucket_fresh(const uint32_t *slots, size_t cap, struct scorebucket_deque *q);
 
-/* ---- the ends. From here on every call refuses 1 and 2, but for image reading; what it refuses more is said of it. */
+/* ---- the ends. From here on every call refuses 1 and 2, and one that can change the queue 6, but for image reading;
+ * what it refuses more is said of it. */
 
 /* Appends v. Refusal: 4. */
 struct scorebucket_reply scorebucket_push_back(uint32_t *slots, size_t cap, struct scorebucket_deque *q, uint32_t v);
@@ -201,13 +213,32 @@ struct scorebucket_reply scorebucket_extend_front(uint32_t *slots, size_t cap, s
 /* Keeps the first n elements, or appends copies of v until there are n. Refusal: 4. */
 struct scorebucket_reply scorebucket_resize(uint32_t *slots, size_t cap, struct scorebucket_deque *q, size_t n,
     uint32_t v);
-/* Copies the other queue's elements behind ours, and empties the other. Refusals: the other's 1 and 2, then 4. */
+/* Copies the other queue's elements behind ours, and empties the other. Refusals: the other's 1, 2 and 6, then 4. */
 struct scorebucket_reply scorebucket_append(uint32_t *slots, size_t cap, struct scorebucket_deque *q,
     const uint32_t *other_slots, size_t other_cap, struct scorebucket_deque *other);
 /* Moves the elements from position `at` on into the target's slots, and makes *t their record: what it and they held
  * before is not looked at. Refusals: the target's 1, then 3, 4. */
 struct scorebucket_reply scorebucket_split_off(const uint32_t *slots, size_t cap, struct scorebucket_deque *q,
     size_t at, uint32_t *target, size_t target_cap, struct scorebucket_deque *t);
+
+/* ---- a queue moved into other slots, more or fewer. A queue that fills up goes on in twice the slots, here by 64
+ * elements at a time, so that no call takes long:
+ *
+ *     struct scorebucket_deque p = {0, 0, 0};
+ *     do {
+ *         r = scorebucket_move_portion(slots, cap, &q, 64, more, 2 * cap, &p);
+ *         .. both can be looked at: position i of the whole list is position i of p, or i - p.len of q ..
+ *     } while (!r.refused && p.mark); */
+
+/* Moves every element into the target's slots, from slot 0 on, and makes *t their record: what it and they held before
+ * is not looked at. *q is left empty, with head 0. Refusals: the target's 1, then 4. */
+struct scorebucket_reply scorebucket_move_all(const uint32_t *slots, size_t cap, struct scorebucket_deque *q,
+    uint32_t *target, size_t target_cap, struct scorebucket_deque *t);
+/* Moves the first n elements, or all if there are fewer, behind those of the other queue, whose mark may be set. If *q
+ * keeps elements, the other's mark becomes 1, also for n = 0; if not, it becomes 0, and head of *q, too. It takes time
+ * by the elements that it moves. Refusals: the other's 1 and 2, then 4. */
+struct scorebucket_reply scorebucket_move_portion(const uint32_t *slots, size_t cap, struct scorebucket_deque *q,
+    size_t n, uint32_t *target, size_t target_cap, struct scorebucket_deque *other);
 
 /* ---- drains, and splice */
 

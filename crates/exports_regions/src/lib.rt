@@ -41,11 +41,11 @@ pub extern "C" fn scorebucket_move_portion(
         (doPortion (now (slots .entry)) (recIn (now (q .entry)))
         (now (target .entry)) (recIn (now (other .entry))) n) ⌝ }
 {
-    let before = deque_in(q);
-    let other_before = deque_in(other);
+    let ours = deque_in(q);
+    let theirs = deque_in(other);
     joined(
         q,
         other,
-        regions::move_portion(slots, before, n, target, other_before),
+        regions::move_portion(slots, ours, n, target, theirs),
     )
 }

@@ -9,7 +9,7 @@ use Rattle.rules.specs.Records.{Rec}
 use Rattle.rules.specs.Refusals.{onChange}
 use Rattle.rules.specs.Rule.{Rule}
 
--- where there is no such test: 1 and 2 are asked as ever, then it is 3
+-- where there is no such test: 1, 2 and 6 are asked as ever, then it is 3
 abbrev pub refusedKind : ℕ → Rec → ℕ
 refusedKind cap r = onChange cap r 3
 

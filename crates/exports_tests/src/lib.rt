@@ -21,7 +21,7 @@ ghost use Rattle.replies.specs.Records.{recIn};
 ghost use Rattle.replies.specs.Replies.{ofReply};
 ghost use Rattle.exports_tests.specs.Kinds.{doTested, refusedKind};
 
-// 1 and 2 as ever, then 3.
+// 1, 2 and 6 as ever, then 3.
 fn no_such_test(cap: usize, q: Deque) -> Reply
     ensures { λ r. ⌜ ofReply r ≡ said (refusedKind cap (recOf q)) 0 none ⌝ }
 {

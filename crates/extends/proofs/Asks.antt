@@ -21,7 +21,7 @@ use Rattle.queue.specs.declared.refusals.Checked.{Checked}
 use Rattle.queue.specs.declared.refusals.Checked.the-variants.{Refused as Failed}
 
 module _ (c : ℕ) (r : Rec) where
-  -- 1 or 2 of a queue is given, whatever is asked after
+  -- 1, 2 or 6 of a queue is given, whatever is asked after
   pub queue-refuses : (k : ℕ) (t : Checked) (x : Refusal) → numberIn t ≡ onChange c r 0 → t ≡ Failed x
       → numberOf x ≡ onChange c r k
   queue-refuses k t x asked f = sym (change-stop c r k (numberOf x) (some-number x) (failed-number t x _ asked f))

@@ -64,7 +64,8 @@ pub enum Closed {
     },
 }
 
-// The answer of `append`. A refusal hands back the same records.
+// The answer of `append` and of a portion: the record of the queue called on, and the other's. A refusal hands back the
+// same records.
 pub enum Joined {
     Done {
         queue: Deque,
@@ -79,7 +80,7 @@ pub enum Joined {
     },
 }
 
-// The answer of `split_off`. A refusal hands back the same record, and makes none.
+// The answer of `split_off` and of a whole move. A refusal hands back the same record, and makes none.
 pub enum Split {
     Done {
         queue: Deque,

@@ -1,29 +1,22 @@
 -- While the mark of a queue stands: which calls are refused, and which still reach the queue. Assumes nothing.
-use mathlib.Core.Bool.{Bool, true, false}
+use mathlib.Core.Bool.{true}
 use mathlib.Core.List.{List, [], _∷_}
 use mathlib.Core.Logic.{_≢_, _⊎_, inl, inr, ⊎-elim}
 use mathlib.Core.Path.{_≡_, refl, ap, _∙_, sym, subst}
-use Prim.Native.Nat.{ℕ, zero, suc}
+use Prim.Native.Nat.{ℕ}
 use native.Mathlib.Omega.{arith}
 use lib.ListN.{length}
 use Rattle.rules.proofs.Choices.{unless-stop}
 use Rattle.rules.proofs.Refusals.{queue-ok, queue-go, change-ok, change-go}
 use Rattle.rules.proofs.Refused.{first-still}
-use Rattle.rules.proofs.Taken.{by-shut}
-use Rattle.rules.proofs.Theorems.{Looks, at-one, at-both}
-use Rattle.rules.specs.Asks.{Ask, AskBoth, answered, answeredBoth, get?, front?, back?, contains?, sliceRanges?, binarySearch?, partitionPoint?, writeImage?, eq?, cmp?}
 use Rattle.rules.specs.Calls.{Op}
 use Rattle.rules.specs.Choices.{ask, unless}
-use Rattle.rules.specs.Images.{onWriting}
-use Rattle.rules.specs.Looks.{looked, seenAs, refusedBy, lookAt, lookAtBoth}
 use Rattle.rules.specs.Outcome.{State, shut, draining, Outcome, refusal, doRule, doOpen, unchanged}
 use Rattle.rules.specs.Pairs.{PairOutcome, onAppending, doAppend, onSplitting, doSplit}
 use Rattle.rules.specs.Portions.{turnOn, across, Reaches, portion-into, by-fresh, by-reading, by-split, by-move, OneReaches, this-one, later-one}
 use Rattle.rules.specs.Records.{Rec}
-use Rattle.rules.specs.Refusals.{onSlots, onQueue, onChange, inRange, onRange, onTaking, room}
+use Rattle.rules.specs.Refusals.{onQueue, onChange, onTaking}
 use Rattle.rules.specs.Regions.{onMoving, doMove, onPortion, doPortion}
-use Rattle.rules.specs.Runs.{lookRuns}
-use Rattle.rules.specs.Search.{searchFor, partitionBy}
 use Rattle.rules.specs.Sequences.{Queue, Pair, CallStep, Call, Side, sideA, sideB, Turn, ofQueue, ofDrain, ofBoth, changing, asking, op, freshly, reading, opening, appending, splitting, moving, porting, comparing, takes, ifShut, ifDraining, takenStep, queueStep, pairStep, lookStep, stillStep, oneStep, bothStep, doOnQueue, firstStep, facing, step, run, queueOf, pairOf}
 
 -- ---- what is asked of a marked queue
@@ -200,65 +193,3 @@ marked-run d s (t ∷ ts) r e m =
     (λ same. ⊎-elim (λ later. inl (later ∙ same)) (λ one. inr (later-one one))
     (marked-run d (step s t .queues) ts r (ap (λ (q : Queue). q .state) same ∙ e) m))
     (λ one. inr (this-one one)) (marked-stays d s t r e m)
-
--- ---- looks ask no 6
-
--- nor does a test with another number
-asks-other : (t : Bool) (n k : ℕ) → n ≢ 6 → k ≢ 6 → ask t n k ≢ 6
-unfolding ask
-asks-other true n k ne ke = ke
-asks-other false n k ne ke = ne
-
-queue-other : (c : ℕ) (r : Rec) (k : ℕ) → k ≢ 6 → onQueue c r k ≢ 6
-unfolding onQueue onSlots
-queue-other c r k ke = asks-other _ 1 _ (λ e. omega arith) (asks-other _ 2 k (λ e. omega arith) ke)
-
--- a look that asks n, and tells what it saw by f
-look-other : {A : Type 0} (n : ℕ) (a : A) → n ≢ 6 → refusedBy (looked n a) ≢ 6
-unfolding looked unless refusedBy
-look-other zero a ne = ne
-look-other (suc n) a ne = ne
-
-seen-other : {A B : Type 0} (f : A → B) (n : ℕ) (a : A) → n ≢ 6 → refusedBy (seenAs f (looked n a)) ≢ 6
-unfolding looked unless seenAs refusedBy
-seen-other f zero a ne = ne
-seen-other f (suc n) a ne = ne
-
--- those at a queue
-module _ (b : List ℕ) (r : Rec) where
-  plain : {A B : Type 0} (f : A → B) (a : A) → refusedBy (seenAs f (looked (onQueue (length b) r 0) a)) ≢ 6
-  plain f a = seen-other f _ a (queue-other (length b) r 0 (λ e. omega arith))
-
-  answered-other : (k : Ask) → refusedBy (answered b r k) ≢ 6
-  unfolding answered lookAt lookRuns searchFor partitionBy onRange inRange onWriting room
-  answered-other (get? i) = plain _ _
-  answered-other front? = plain _ _
-  answered-other back? = plain _ _
-  answered-other (contains? x) = plain _ _
-  answered-other (sliceRanges? s e) =
-      seen-other _ _ _
-      (queue-other _ r _ (asks-other _ 3 _ (λ z. omega arith) (asks-other _ 3 0 (λ z. omega arith) (λ z. omega arith))))
-  answered-other (binarySearch? x) = plain _ _
-  answered-other (partitionPoint? t) = plain _ _
-  answered-other (writeImage? n) =
-      look-other _ _ (queue-other _ r _ (asks-other _ 4 0 (λ z. omega arith) (λ z. omega arith)))
-
-  -- and at two
-  answered-both-other : (b′ : List ℕ) (r′ : Rec) (k : AskBoth) → refusedBy (answeredBoth b r b′ r′ k) ≢ 6
-  unfolding answeredBoth lookAtBoth
-  answered-both-other b′ r′ eq? = seen-other _ _ _ (queue-other _ r _ (queue-other _ r′ 0 (λ z. omega arith)))
-  answered-both-other b′ r′ cmp? = seen-other _ _ _ (queue-other _ r _ (queue-other _ r′ 0 (λ z. omega arith)))
-
-looks-first-other : (p q : Queue) {k : Call} → Looks k → firstStep p q k .refused ≢ 6
-unfolding firstStep takes takenStep queueStep pairStep lookStep stillStep
-looks-first-other p q (at-one a) =
-    by-shut (p .state) (λ t. takenStep p q t .refused ≢ 6) (λ e. omega arith) (λ r. answered-other (p .slots) r a)
-looks-first-other p q (at-both a) =
-    by-shut (p .state) (λ t. takenStep p q t .refused ≢ 6) (λ e. omega arith)
-    (λ r. by-shut (q .state) (λ t. takenStep p q t .refused ≢ 6) (λ e. omega arith)
-    (λ r′. answered-both-other (p .slots) r (q .slots) r′ a))
-
--- A CALL THAT ONLY LOOKS is never refused with 6, at whatever queues.
-pub looks-go-on : (s : Pair) (t : Turn) → Looks (t .call) → step s t .refused ≢ 6
-unfolding step
-looks-go-on s t l = let p = facing (t .side) s in looks-first-other (p .a) (p .b) l

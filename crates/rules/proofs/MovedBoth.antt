@@ -6,7 +6,6 @@ use mathlib.Core.Path.{_≡_, _∙_, sym, refl}
 use Prim.Native.Nat.{ℕ, _≤_, _-_, _<_, _+_, min}
 use native.Mathlib.Omega.{arith}
 use borrow.Author.Tests.{ne-eqb}
-use lib.Dec.{eqb}
 use lib.ListN.{length, drop, drop-of-length-le, take, length-drop}
 use Rattle.rules.proofs.Fit.{Fit, fit-shut}
 use Rattle.rules.proofs.Held.{length-held}
@@ -28,7 +27,7 @@ use Rattle.rules.specs.Moves.{Traced, elsewhere, slotOf, strays, tracesF
 use Rattle.rules.specs.Outcome.{shut, accepted, recAfter}
 use Rattle.rules.specs.Pairs.{onAppending, appended, crossing, onSplitting, splitted, PairOutcome, doAppend, doSplit}
 use Rattle.rules.specs.Places.{place}
-use Rattle.rules.specs.Records.{Rec, stepped, newRec, withMark}
+use Rattle.rules.specs.Records.{Rec, held, stepped, newRec, withMark}
 use Rattle.rules.specs.Regions.{onMoving, movedWhole, doMove, onPortion, passOn, ported, doPortion}
 use Rattle.rules.specs.Sequences.{Side, sideA, sideB, CallStep, Queue, stillStep, QueueCall, queueStep, queueOf, oneStep, lookStep, changing, asking, bothStep, madeOr, stands, PairCall, pairStep, appending, splitting, moving, porting, comparing, Call, firstStep, takenStep}
 use Rattle.rules.specs.Choices.{unless, whether}
@@ -127,11 +126,11 @@ first-traces b h n k good fits le =
     (lt-or-ge 0 n)
 
 -- those behind the first k of ours stay where they stand; where there are none, wherever head goes
-passed-moved : (b : List ℕ) (h n k : ℕ) → h ≤ length b - 1 → n ≤ length b → k ≤ n
+passed-moved : (b : List ℕ) (h n k : ℕ) (l : List ℕ) → h ≤ length b - 1 → n ≤ length b → k ≤ n
     → 0 ≡ strays sideA (drop k (tracesFrom sideA (length b) b h n))
-    (placesFrom (length b) (whether (eqb (n - k) 0) 0 (place (length b) h k)) (n - k))
-unfolding whether
-passed-moved b h n k good fits le =
+    (placesFrom (length b) (passOn k .head (length b) h n l) (n - k))
+unfolding passOn whether
+passed-moved b h n k l good fits le =
     ⊎-elim
     (λ lt. rw (ne-eqb (n - k) 0 (λ e. omega arith)) (drop-moved sideA b h n good fits k le))
     (λ ge. rw (
@@ -212,7 +211,7 @@ module _ (b : List ℕ) (r : Rec) (b′ : List ℕ) (r′ : Rec) where
       )
       (omega (
         arith,
-        passed-moved b (r .head) (r .len) k (o .0 .placed) (o .0 .fits) (omega arith),
+        passed-moved b (r .head) (r .len) k (held b r) (o .0 .placed) (o .0 .fits) (omega arith),
         joined sideB sideA a-in-b b′ (r′ .head) (r′ .len) b (r .head) k (o .1 .placed) (o .2) (o .0 .placed)
             (omega (arith, o .0 .fits)),
       ))

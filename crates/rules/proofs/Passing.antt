@@ -1,13 +1,13 @@
 -- What a portion leaves of the two queues, and what another one behind it leaves. b, r are the old queue's slots and
 -- record, b′, r′ the new one's. Assumes nothing.
+use mathlib.Core.Bool.{true, false}
 use mathlib.Core.List.{List, [], _++_, append-assoc}
 use mathlib.Core.Logic.{⊎-elim}
 use mathlib.Core.Option.{none}
 use mathlib.Core.Path.{_≡_, refl, ap, _∙_, sym}
-use Prim.Native.Nat.{ℕ, zero, suc, _+_, _-_, _≤_, min}
+use Prim.Native.Nat.{ℕ, zero, suc, _+_, _-_, _<_, _≤_, min}
 use native.Mathlib.Omega.{arith}
 use borrow.Author.Tests.{ne-eqb, lt-ltb, le-ltb}
-use lib.Dec.{ltb}
 use lib.ListN.{length, take, drop, length-append, length-take}
 use lib.Seq.{take-add}
 use Rattle.rules.proofs.Choices.{lt-or-ge}
@@ -22,7 +22,7 @@ use Rattle.rules.specs.Joins.{extendWith}
 use Rattle.rules.specs.Outcome.{shut, accepted, recAfter}
 use Rattle.rules.specs.Records.{Rec, held, stepped, withMark}
 use Rattle.rules.specs.Pairs.{crossing}
-use Rattle.rules.specs.Regions.{passOn, onPortion, ported, doPortion}
+use Rattle.rules.specs.Regions.{toCome, passOn, onPortion, ported, doPortion}
 use Rattle.rules.specs.Sequences.{Pair, CallStep, pairOf, queueOf, firstStep, ofBoth, porting, takes, ifShut, takenStep, pairStep, bothStep, madeOr}
 use Rattle.rules.specs.Slots.{lay}
 
@@ -50,20 +50,29 @@ rest-rest b r g k j le = by (r .len - (k + j)) refl
 
 -- its record after k elements of a queue with the record r have come
 unfoldable pub gained : Rec → Rec → ℕ → Rec
-gained r r′ k = withMark (ltb k (r .len)) (stepped r′ (r′ .head) (r′ .len + k))
+gained r r′ k = withMark (toCome k r) (stepped r′ (r′ .head) (r′ .len + k))
 
--- fewer than are left, of n less k: fewer than all, with those k
-behind-less : (n k j : ℕ) → k ≤ n → ltb j (n - k) ≡ ltb (k + j) n
-behind-less n k j le = ⊎-elim (λ lt. rw (lt-ltb j (n - k) (omega arith), lt-ltb (k + j) n lt))
-    (λ ge. rw (le-ltb j (n - k) (omega arith), le-ltb (k + j) n ge)) (lt-or-ge (k + j) n)
+-- what its mark says
+pub none-to-come : (k : ℕ) (r : Rec) → r .len ≤ k → toCome k r ≡ false
+none-to-come k r le = le-ltb k (r .len) le
+
+some-to-come : (k : ℕ) (r : Rec) → k < r .len → toCome k r ≡ true
+some-to-come k r lt = lt-ltb k (r .len) lt
+
+-- as k have gone, and then j
+to-come-on : (b : List ℕ) (r : Rec) (k j : ℕ) → toCome j (rest b r k) ≡ toCome (k + j) r
+unfolding recAfter passOn stepped
+to-come-on b r k j = ⊎-elim
+    (λ lt. some-to-come j (rest b r k) (omega arith) ∙ sym (some-to-come (k + j) r lt))
+    (λ ge. none-to-come j (rest b r k) (omega arith) ∙ sym (none-to-come (k + j) r ge))
+    (lt-or-ge (k + j) (r .len))
 
 -- the next j have come, too
-gained-gained : (b : List ℕ) (r r′ : Rec) (k j : ℕ) → k + j ≤ r .len
-    → gained (rest b r k) (gained r r′ k) j ≡ gained r r′ (k + j)
+gained-gained : (b : List ℕ) (r r′ : Rec) (k j : ℕ) → gained (rest b r k) (gained r r′ k) j ≡ gained r r′ (k + j)
 unfolding gained recAfter passOn stepped withMark
-gained-gained b r r′ k j le =
+gained-gained b r r′ k j =
     let sum : r′ .len + k + j ≡ r′ .len + (k + j) = omega arith in
-    rw (sum, behind-less (r .len) k j (omega arith))
+    rw (sum, to-come-on b r k j)
 
 gained-good : (c : ℕ) (r r′ : Rec) (k : ℕ) → Good c r′ → r′ .len + k ≤ c → Good c (gained r r′ k)
 unfolding gained
@@ -110,7 +119,7 @@ passed-passed b r b′ r′ k j g g′ le fits =
     ∙ ap (λ (m : List ℕ). lay b′ (r′ .head) (held b′ r′ ++ m)) (sym (take-add k j (held b r))) in
     rw (
       rest-rest b r g k j le,
-      gained-gained b r r′ k j le,
+      gained-gained b r r′ k j,
       now-held,
       held-rest b r k g,
       slots,

@@ -4,7 +4,6 @@ use mathlib.Core.List.{List, [], _∷_, _++_}
 use mathlib.Core.Path.{_≡_, refl, ap, _∙_, sym, subst}
 use Prim.Native.Nat.{ℕ, _+_, _-_, _≤_, min}
 use native.Mathlib.Omega.{arith}
-use borrow.Author.Tests.{le-ltb}
 use lib.ListN.{length, take}
 use lib.Seq.{take-all}
 use Rattle.rules.proofs.Choices.{when-accepted}
@@ -25,7 +24,7 @@ use Rattle.rules.specs.Refusals.{onChange, onQueue, room}
 use Rattle.rules.specs.Regions.{onMoving, movedWhole, doMove, passOn, onPortion, doPortion}
 use Rattle.rules.specs.Sequences.{Side, sideA, sideB, facing, step, run, Queue, Pair, CallStep, pairOf, queueOf, firstStep, ofBoth, moving, porting, stands, takes, ifShut, takenStep, pairStep, bothStep, stillStep, madeOr}
 use Rattle.rules.specs.Slots.{lay}
-use Rattle.rules.proofs.Passing.{gained, passed, crossed, portion-passes, passed-passed}
+use Rattle.rules.proofs.Passing.{none-to-come, gained, passed, crossed, portion-passes, passed-passed}
 
 -- ---- two portions are one
 
@@ -155,7 +154,7 @@ gained-all : (r : Rec) → gained r (newRec 0) (r .len) ≡ newRec (r .len)
 unfolding gained newRec stepped withMark
 gained-all r =
     let many : 0 + r .len ≡ r .len = omega arith in
-    rw (many, le-ltb (r .len) (r .len) (omega arith))
+    rw (many, none-to-come (r .len) r (omega arith))
 
 -- and so the whole move leaves what it leaves
 move-passes : (b : List ℕ) (r : Rec) (b′ : List ℕ) → onMoving (length b) r (length b′) ≡ 0

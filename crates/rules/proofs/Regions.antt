@@ -4,7 +4,6 @@ use mathlib.Core.Path.{_≡_, refl, sym, ap, _∙_}
 use Prim.Native.Nat.{ℕ, _+_, _≤_, _-_, min, zero, suc}
 use native.Mathlib.Omega.{arith}
 use borrow.Author.Tests.{ne-eqb}
-use lib.Dec.{eqb}
 use lib.ListN.{length, take, drop, length-drop, length-take, drop-of-length-le}
 use Rattle.rules.proofs.Count.{tally-nil, tally-split}
 use Rattle.rules.proofs.Ends.{clear-lawful}
@@ -17,8 +16,7 @@ use Rattle.rules.proofs.Refusals.{Good, change-ok, queue-ok, room-ok, s
 use Rattle.rules.proofs.Slots.{lay-own, listOf-drop, listOf-none}
 use Rattle.rules.specs.Ends.{clear}
 use Rattle.rules.specs.Joins.{extendWith}
-use Rattle.rules.specs.Outcome.{recAfter}
-use Rattle.rules.specs.Places.{place}
+use Rattle.rules.specs.Outcome.{accepted, recAfter}
 use Rattle.rules.specs.Records.{Rec, held, stepped}
 use Rattle.rules.specs.Regions.{onMoving, onPortion, passOn}
 use Rattle.rules.specs.Slots.{lay}
@@ -42,13 +40,13 @@ move-leaves b r c′ e =
 -- ---- in portions
 
 -- the head of what is left: 0, or k places on
-passed-good : (c h n k : ℕ) → h ≤ c - 1 → n ≤ c → whether (eqb (n - k) 0) 0 (place c h k) ≤ c - 1
-unfolding whether
-passed-good c h n k good le = by (n - k) refl
+passed-good : (c h n k : ℕ) (l : List ℕ) → h ≤ c - 1 → n ≤ c → passOn k .head c h n l ≤ c - 1
+unfolding passOn whether
+passed-good c h n k l good le = by (n - k) refl
   where
-    by : (m : ℕ) → n - k ≡ m → whether (eqb m 0) 0 (place c h k) ≤ c - 1
-    by zero e = omega arith
-    by (suc m) e = rw (ne-eqb (suc m) 0 (λ z. omega arith)) (place-good c h good k (omega arith))
+    by : (m : ℕ) → n - k ≡ m → passOn k .head c h n l ≤ c - 1
+    by zero e = rw e (omega arith)
+    by (suc m) e = rw (ne-eqb (n - k) 0 (λ z. omega arith)) (place-good c h good k (omega arith))
 
 pub passOn-lawful : (k : ℕ) → Lawful (passOn k)
 unfolding passOn
@@ -56,7 +54,7 @@ passOn-lawful k = record {
   fits = λ c l le e. omega arith;
   long = λ c l e. length-drop k l;
   balance = λ x c l e. omega (arith, tally-split x k l, tally-nil x);
-  good = λ c h l g le e. passed-good c h (length l) k g le;
+  good = λ c h l g le e. passed-good c h (length l) k l g le;
 }
 
 -- the old queue's record after the first k have gone
@@ -75,9 +73,8 @@ held-rest b r k g = by (r .len - k) refl
         (sym (listOf-drop b (r .head) (omega (arith, g .placed, g .fits)) k (r .len) (omega arith) (g .fits)))
 
 -- so laying it writes nothing
-pub left-standing : (b : List ℕ) (r : Rec) (k : ℕ) → Good (length b) r
-    → lay b (whether (eqb (r .len - k) 0) 0 (place (length b) (r .head) k)) (drop k (held b r)) ≡ b
-unfolding held recAfter passOn stepped
+pub left-standing : (b : List ℕ) (r : Rec) (k : ℕ) → Good (length b) r → accepted b r (passOn k) .slots ≡ b
+unfolding accepted held recAfter passOn stepped
 left-standing b r k g =
     let h = rest b r k .head in
     ap (lay b h) (sym (held-rest b r k g)) ∙ lay-own b h (rest b r k .len)

@@ -5,6 +5,7 @@ use mathlib.Core.Path.{_≡_}
 use Prim.Native.Nat.{ℕ, _+_}
 use Rattle.rules.specs.Sequences.{Side, sideA, sideB, Call, Turn, Pair, step, run, ofQueue, changing, freshly, reading, ofBoth, splitting, moving, porting}
 
+-- the call k, made on the queue d
 abbrev pub turnOn : Side → Call → Turn
 turnOn d k = record { side = d; call = k }
 

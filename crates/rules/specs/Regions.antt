@@ -1,4 +1,5 @@
 -- A queue moved into another region, whole or in portions. Assumes nothing.
+use mathlib.Core.Bool.{Bool}
 use mathlib.Core.List.{List}
 use mathlib.Core.Option.{some, none}
 use Prim.Native.Nat.{ℕ, _+_, _-_, min}
@@ -55,13 +56,17 @@ passOn k = record {
   head = λ c h n l. whether (eqb (n - k) 0) 0 (place c h k);
 }
 
+-- elements of the old queue, whose record is r, are still to come as k have gone
+abbrev pub toCome : ℕ → Rec → Bool
+toCome k r = ltb k (r .len)
+
 -- k elements, the smaller of n and len, go from the front of the old queue to the back of the new one. Its
 -- mark is set where the old one is left with elements, and cleared where it is left empty; moved is k
 unfoldable pub ported : List ℕ → Rec → List ℕ → Rec → ℕ → PairOutcome
 ported b r b′ r′ n =
     let k = min n (r .len) in
     let R = extendWith (take k (held b r)) in
-    crossing k b r (passOn k) (some (withMark (ltb k (r .len)) (recAfter b′ r′ R))) (accepted b′ r′ R .slots)
+    crossing k b r (passOn k) (some (withMark (toCome k r) (recAfter b′ r′ R))) (accepted b′ r′ R .slots)
 
 -- refused with n: the same records, and nothing is written
 unfoldable pub doPortion : List ℕ → Rec → List ℕ → Rec → ℕ → PairOutcome

@@ -75,6 +75,8 @@ fn call_of(number: usize, words: &[usize]) -> Call {
         call::SWAP_REMOVE_BACK => removal(Removal::SwapRemoveBack(first)),
         call::APPEND => Call::OfBoth(PairCall::Append),
         call::SPLIT_OFF => Call::OfBoth(PairCall::SplitOff(first)),
+        call::MOVE_ALL => Call::OfBoth(PairCall::MoveAll),
+        call::MOVE_PORTION => Call::OfBoth(PairCall::MovePortion(first)),
         call::RETAIN => edit(Edit::Retain(test_of(words))),
         call::SPLICE => join(Join::Splice(first, second)),
         call::DRAIN_OPEN => changing(QueueChange::Drain(first, second)),

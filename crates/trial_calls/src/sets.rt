@@ -1,8 +1,10 @@
 // The calls that set a state.
+use queue::with_mark;
 use trial_looks::state::Kept;
 use trial_looks::state::Queues;
 use trial_looks::state::quiet;
 use trial_looks::state::record;
+use trial_text::MARK;
 use trial_text::RECORD;
 use trial_text::call;
 use trial_text::word;
@@ -11,9 +13,14 @@ use vec_deque::Drain;
 use vec_deque::Walk;
 use vec_deque::WrappedIndex;
 
-// The first words as a record.
-fn record_of(words: &[usize]) -> Deque {
+// The first two words as a record without a mark.
+fn unmarked(words: &[usize]) -> Deque {
     record(word(words, 0), word(words, 1))
+}
+
+// The words of a record as one, its mark set by 1.
+fn record_of(words: &[usize]) -> Deque {
+    with_mark(unmarked(words), word(words, MARK) == 1)
 }
 
 // Six words as the record of a drain.
@@ -61,7 +68,7 @@ pub fn plant(words: &[usize], a_slots: &mut [u32], b_slots: &mut [u32]) -> Queue
     fill(a_slots, 10);
     fill(b_slots, 20);
     Queues {
-        a: quiet(record_of(words)),
+        a: quiet(unmarked(words)),
         b: quiet(record(1, 2)),
     }
 }

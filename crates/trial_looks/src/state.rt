@@ -18,11 +18,12 @@ pub struct Kept {
     pub walk: Walking,
 }
 
-// A record of any two numbers.
+// A record of any two numbers, without a mark.
 pub fn record(head: usize, len: usize) -> Deque {
     Deque {
         head: WrappedIndex::from_arbitrary_number(head),
         len,
+        mark: false,
     }
 }
 

@@ -19,10 +19,19 @@ fn put_named(out: &mut [u8], at: usize, text: &[u8], number: usize) -> usize {
     put_spaced(out, named, number)
 }
 
+// Puts a record's open mark.
+fn put_mark(out: &mut [u8], at: usize, mark: bool) -> usize {
+    if mark {
+        return put_text(out, at, b" o1");
+    }
+    put_text(out, at, b" o0")
+}
+
 // Puts a record.
 fn put_record(out: &mut [u8], at: usize, queue: Deque) -> usize {
     let head = put_spaced(out, at, queue.head.as_index());
-    put_spaced(out, head, queue.len)
+    let len = put_spaced(out, head, queue.len);
+    put_mark(out, len, queue.mark)
 }
 
 // Puts an open drain.

@@ -85,6 +85,10 @@ pub const IMAGE_READ: usize = 41;
 
 pub const IMAGE_WRITE: usize = 42;
 
+pub const MOVE_ALL: usize = 43;
+
+pub const MOVE_PORTION: usize = 44;
+
 pub const SET_RECORD: usize = 90;
 
 pub const SET_DRAIN: usize = 91;

@@ -10,8 +10,11 @@ pub const BYTE: usize = 255;
 // The most bytes of an image's target.
 pub const TARGET: usize = 64100;
 
+// The place of the open mark among the words of a record, behind head and len.
+pub const MARK: usize = 2;
+
 // The words of a record.
-pub const RECORD: usize = 2;
+pub const RECORD: usize = 3;
 
 // The words of an open drain.
 const DRAIN: usize = 6;
@@ -19,6 +22,8 @@ const DRAIN: usize = 6;
 // The words that a call takes. A list is its count and that many values.
 enum Form {
     Numbers(usize),
+    Record,
+    Walk,
     Element,
     Target,
     NumberAndElement,
@@ -42,6 +47,7 @@ fn form_of(number: usize) -> Form {
         | call::EQUAL
         | call::COMPARE
         | call::DRAIN_NEXT..=call::WALK_NEXT_BACK
+        | call::MOVE_ALL
         | call::FORGET => Form::Numbers(0),
         call::GET
         | call::TRUNCATE
@@ -49,7 +55,8 @@ fn form_of(number: usize) -> Form {
         | call::REMOVE
         | call::SWAP_REMOVE_FRONT
         | call::SWAP_REMOVE_BACK
-        | call::SPLIT_OFF => Form::Numbers(1),
+        | call::SPLIT_OFF
+        | call::MOVE_PORTION => Form::Numbers(1),
         call::SWAP | call::RANGES..=call::BACK_RUN | call::DRAIN_OPEN | call::PLANT => {
             Form::Numbers(2)
         }
@@ -60,9 +67,9 @@ fn form_of(number: usize) -> Form {
         call::SPLICE => Form::RangeAndElements,
         call::IMAGE_READ => Form::Bytes,
         call::IMAGE_WRITE => Form::Target,
-        call::SET_RECORD => Form::Numbers(RECORD),
+        call::SET_RECORD => Form::Record,
         call::SET_DRAIN => Form::Numbers(DRAIN),
-        call::SET_WALK => Form::Numbers(RECORD + 2),
+        call::SET_WALK => Form::Walk,
         _ => Form::Unknown,
     }
 }
@@ -81,6 +88,14 @@ fn at_most(words: &[usize], from: usize, most: usize) -> bool {
 fn are_words(words: &[usize], count: usize, from: usize, most: usize) -> bool {
     if words.len() == count {
         return at_most(words, from, most);
+    }
+    false
+}
+
+// Whether there are `count` words, and the first of them are a record: its mark is 0 or 1.
+fn are_record(words: &[usize], count: usize) -> bool {
+    if words.len() == count {
+        return word(words, MARK) <= 1;
     }
     false
 }
@@ -111,6 +126,8 @@ fn are_list(words: &[usize], from: usize, most: usize) -> bool {
 fn have_form(words: &[usize], form: Form) -> bool {
     match form {
         Form::Numbers(count) => words.len() == count,
+        Form::Record => are_record(words, RECORD),
+        Form::Walk => are_record(words, RECORD + 2),
         Form::Element => are_words(words, 1, 0, ELEMENT),
         Form::Target => are_words(words, 1, 0, TARGET),
         Form::NumberAndElement => are_words(words, 2, 1, ELEMENT),

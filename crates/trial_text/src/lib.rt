@@ -9,6 +9,7 @@ mod writing; // writing.rt: standard output, through a buffer
 
 pub use forms::BYTE;
 pub use forms::ELEMENT;
+pub use forms::MARK;
 pub use forms::RECORD;
 pub use forms::TARGET;
 pub use forms::list;

@@ -21,3 +21,8 @@ pub data Played : Pair → List Turn → Pair → Type 0 where
   played : {s e : Pair} {ts : List Turn} (d : Side) (k : Call) (vs bs : List ℕ) (r : StepAnswered) (x y : List ℕ)
       → (ofStepAnswer r, x, y) ≡ toldStep (step s (turnOf d k vs bs)) → Played (leftBy r x y) ts e
       → Played s (turnOf d k vs bs ∷ ts) e
+
+-- each of them answered that it was not refused
+unfoldable pub AllAnswered : {s e : Pair} {ts : List Turn} → Played s ts e → Type 0
+AllAnswered over = Unit {0}
+AllAnswered (played d k vs bs r x y f p) = (ofStepAnswer r .refused ≡ 0) × AllAnswered p
