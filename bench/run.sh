@@ -14,5 +14,9 @@ cd bench
 # addresses out of their way
 RUSTC_BOOTSTRAP=1
 RUSTFLAGS=-Zrelax-elf-relocations=yes
+# the program's own loops, around the calls of both sides, begin at a 64-byte line: where one lay across two lines, by
+# the compiler's chance, `get` took a sixth longer
+[ "$(uname -m)" != x86_64 ] ||
+    RUSTFLAGS="$RUSTFLAGS -Cllvm-args=-x86-experimental-pref-innermost-loop-alignment=6"
 export RUSTC_BOOTSTRAP RUSTFLAGS
 CARGO_TARGET_DIR=../target/bench cargo run --release --offline --quiet -- "$@"
