@@ -61,17 +61,17 @@ pub fn check(cap: usize, q: Deque) -> Checked
 }
 
 // The tests that a call of a kind that can change the queue asks first: slots, record, and whether a move into it is
-// open. One that only looks asks `check`.
+// open. One that only looks asks `check`. A mark is rare, so the way without one falls through it to the same tests.
 pub fn check_change(cap: usize, q: Deque) -> Checked
     ensures { λ r. ⌜ numberIn r ≡ onChange cap (recOf q) 0 ⌝ }
 {
-    if let Checked::Refused(refusal) = check(cap, q) {
-        return Checked::Refused(refusal);
-    }
     if q.mark {
+        if let Checked::Refused(refusal) = check(cap, q) {
+            return Checked::Refused(refusal);
+        }
         return Checked::Refused(Refusal::Open);
     }
-    Checked::Good
+    check(cap, q)
 }
 
 // The tests of a range of the positions of `len` elements: it begins before it ends, and ends within them.

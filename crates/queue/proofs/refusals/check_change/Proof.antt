@@ -1,6 +1,7 @@
 -- `queue::check_change` meets its contract: one law for each return. Assumes nothing.
+use mathlib.Core.Path.{_∙_}
 use borrow.Author.Needs.{needs}
-use Rattle.queue.proofs.Checks.{first-checked, open-checked, unmarked-checked}
+use Rattle.queue.proofs.Checks.{first-checked, open-checked, unmarked-asks}
 use Rattle.queue.proofs.refusals.check_change.Statement.{statement}
 use Rattle.queue.proofs.refusals.check_change.Tie as tie
 
@@ -18,11 +19,15 @@ enum-told c = search needs
 
 returns-2 : tie.Need-returns-2
 returns-2 c =
-    open-checked _ _ _ (c .before .before .before .check .ensures) (c .before .enum-told .given .1) (c .if1 .taken)
+    open-checked _ _ _ (c .before .before .check .ensures) (c .enum-told .given .1) (c .before .before .before .if1 .taken)
+
+check-requires-2 : tie.Need-check-requires-2
+check-requires-2 c κs = search needs
 
 returns-3 : tie.Need-returns-3
-returns-3 c =
-    unmarked-checked _ _ _ (c .before .before .before .check .ensures) (c .before .enum-told .given .1) (c .if1 .left)
+returns-3 c = c .check2 .ensures ∙ unmarked-asks _ _ (c .before .if1 .left)
 
 pub check-change-spec : {M : Type 1} → statement M
-check-change-spec = tie.close (tie.spec check-requires enum-known-refusal returns enum-told returns-2 returns-3)
+check-change-spec =
+    tie.close
+    (tie.spec check-requires enum-known-refusal returns enum-told returns-2 check-requires-2 returns-3)
