@@ -61,7 +61,8 @@ pub fn check(cap: usize, q: Deque) -> Checked
 }
 
 // The tests that a call of a kind that can change the queue asks first: slots, record, and whether a move into it is
-// open. One that only looks asks `check`. A mark is rare, so the way without one falls through it to the same tests.
+// open. One that only looks asks `check`. A marked queue is asked apart: where its mark was asked behind the record, the
+// compiler made one condition of both, and every push and pop was slower for it.
 pub fn check_change(cap: usize, q: Deque) -> Checked
     ensures { λ r. ⌜ numberIn r ≡ onChange cap (recOf q) 0 ⌝ }
 {
