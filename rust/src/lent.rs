@@ -16,7 +16,7 @@
 //!   opened, for it would have closed the drain itself. A drain is opened with `&mut self`, so once a call with `&self`
 //!   sees no flag, nothing is written as long as the reference that it gives is used.
 //! - A look for one element that gives the archive a flag gives it pointers and no references, and 1 is the first that
-//!   the archive asks: it reads neither a slot nor the record.
+//!   the archive asks: it reads no slot, and what it may have read of the record by then it does not use.
 //! - A flag is taken off with `Release` and read with `Acquire`: who sees none sees the elements in their new places.
 use crate::raw::{self, FoundReply, Record, Reply, Seen};
 use crate::Refusal;

@@ -31,7 +31,7 @@ pub(crate) struct Drain {
 /// A queue as a look for one element is given it: the slots, their number, and the record.
 ///
 /// These are no references, since there may be nothing to refer to: where the number is above 16,000, the look is
-/// refused for it before it reads any slot or the record.
+/// refused for it: no slot is read, and nothing of the record is used.
 #[derive(Clone, Copy)]
 pub(crate) struct Seen<'s> {
     slots: *const u32,
