@@ -177,11 +177,11 @@ printf 'T 3 2\n0 1 7\n' >"$work/script"
 printf 'T 3 2\n0 1 7\n0 77\n0 1 8\n' >"$work/broken script"
 keep $trial <"$work/script"
 expect 'trial: a script' 0 '' 'T 3 2
-0 0 . | 0 1 : 7 1001 1002 | 0 0 : 2000 2001
+0 0 . | 0 1 o0 : 7 1001 1002 | 0 0 o0 : 2000 2001
 '
 keep $trial <"$work/broken script"
 expect 'trial: a broken line' 1 'trial: line 3 is broken' 'T 3 2
-0 0 . | 0 1 : 7 1001 1002 | 0 0 : 2000 2001
+0 0 . | 0 1 o0 : 7 1001 1002 | 0 0 o0 : 2000 2001
 broken line 3
 '
 keep $trial <&-
