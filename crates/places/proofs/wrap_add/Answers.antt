@@ -1,0 +1,7 @@
+-- `places::wrap_add` meets its contract: the sum does not wrap at 2 ^ 64. Assumes nothing.
+use Rattle.std.proofs.Common.{ap, ◌∙◌, arith, rules}
+use Rattle.rules.specs.Places.{wrapped}
+use Rattle.places.proofs.wrap_add.Goals as goal
+
+pub returns : goal.returns
+returns c = c.wrap_index.ensures ∙ ap (wrapped c.args.cap) (omega arith)

@@ -1,0 +1,7 @@
+-- `places::wrap_sub` meets its contract: the difference wraps at 2 ^ 64, and the sum wraps back. Assumes nothing.
+use Rattle.std.proofs.Common.{ap, ◌∙◌, arith, rules}
+use Rattle.rules.specs.Places.{wrapped}
+use Rattle.places.proofs.wrap_sub.Goals as goal
+
+pub returns : goal.returns
+returns c = c.wrap_index.ensures ∙ ap (wrapped c.args.cap) (omega arith)
