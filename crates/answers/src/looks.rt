@@ -14,7 +14,7 @@ use queue::{Ordering, Point, Ranges, Refusal, Searched, Span, Truth};
 
 // What was seen: an element, or that there is none; a truth; an order; where a search ended; a count; two runs.
 // `Nothing`: there was no look, or it was refused.
-#[derive(Drop)]
+#[derive(Clone, Copy)]
 pub enum Sight {
     Element(u32),
     NoElement,
@@ -30,7 +30,7 @@ pub enum Sight {
 }
 
 // What a look answers: the refusal number, 0 if there is none, and what was seen.
-#[derive(Drop)]
+#[derive(Clone, Copy)]
 pub struct Looked {
     pub refused: usize,
     pub sight: Sight,

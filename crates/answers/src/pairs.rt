@@ -12,7 +12,7 @@ use queue::{Joined, Split, State};
 
 // What a call on either of two queues answers: the refusal number,
 // the moved count, what was handed over, and both records.
-#[derive(Drop)]
+#[derive(Clone, Copy)]
 pub struct StepAnswer {
     pub refused: usize,
     pub moved: usize,

@@ -11,7 +11,7 @@ use queue::{Change, Deque, Made, Refusal, State};
 
 // What a call on one queue answers: the refusal number, 0 if
 // there is none; the moved count; the record; what was given.
-#[derive(Drop)]
+#[derive(Clone, Copy)]
 pub struct Answer {
     pub refused: usize,
     pub moved: usize,

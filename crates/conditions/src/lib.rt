@@ -4,7 +4,7 @@ ghost use Rattle.rules.specs.Conditions.{meets};
 ghost use Rattle.conditions.specs.Tests.{test_of};
 
 // What an element is compared with.
-#[derive(Drop)]
+#[derive(Clone, Copy)]
 pub enum Test {
     Below(u32),
     AtLeast(u32),

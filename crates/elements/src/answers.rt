@@ -7,14 +7,14 @@ ghost use Rattle.elements.specs.Answers.{of_handed};
 use queue::{Deque, Drain, Refusal, Walk};
 
 // What a call handed over.
-#[derive(Drop)]
+#[derive(Clone, Copy)]
 pub enum Given {
     Number(u32),
     Nothing,
 }
 
 // The answer of a call that hands an element over. Nothing comes without change.
-#[derive(Drop)]
+#[derive(Clone, Copy)]
 pub enum Handed {
     Number {
         number: u32,
@@ -44,7 +44,7 @@ pub fn refused(refusal: Refusal, q: Deque) -> Handed
 }
 
 // The answer of `drain_next` and `drain_next_back`. Nothing comes without change.
-#[derive(Drop)]
+#[derive(Clone, Copy)]
 pub enum Drawn {
     Number {
         number: u32,
@@ -63,7 +63,7 @@ pub enum Drawn {
 }
 
 // The answer of a call that looks at an element.
-#[derive(Drop)]
+#[derive(Clone, Copy)]
 pub enum Found {
     Number(u32),
     Nothing,
@@ -71,7 +71,7 @@ pub enum Found {
 }
 
 // The answer of a walk's step. Nothing and a refusal hand back the same walk.
-#[derive(Drop)]
+#[derive(Clone, Copy)]
 pub enum Stepped {
     Number { number: u32, walk: Walk },
     Nothing { walk: Walk },

@@ -8,7 +8,7 @@ ghost use Rattle.holes.specs.Holes.{closed_hole, shorter_side};
 use places::WrappedIndex;
 
 // Where a queue begins once its elements have moved, and how many did.
-#[derive(Drop)]
+#[derive(Clone, Copy)]
 pub struct Settled {
     pub head: WrappedIndex,
     pub moved: usize,
@@ -30,7 +30,7 @@ pub fn move_elements(slots: &mut [u32], head: WrappedIndex, from: usize, to: usi
 
 // The side of a hole that moves: `n` elements, which stand from
 // `src` on and go to `dst`; then the queue begins at `head`.
-#[derive(Drop)]
+#[derive(Clone, Copy)]
 struct Shorter {
     src: WrappedIndex,
     dst: WrappedIndex,

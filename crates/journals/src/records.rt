@@ -4,7 +4,7 @@ ghost use Rattle.rules.specs.Journals.{entry_of, length_of, record_at, some_leng
 ghost use Rattle.journals.specs.Records.{entry_for, of_record};
 
 // The nine operations of a journal, with their operands.
-#[derive(Drop)]
+#[derive(Clone, Copy)]
 pub enum Operation {
     PushBack(u32),
     PushFront(u32),
@@ -19,7 +19,7 @@ pub enum Operation {
 
 // What stands at a position: an operation, and the position behind
 // its record; a broken record; one cut short; the end of the bytes.
-#[derive(Drop)]
+#[derive(Clone, Copy)]
 pub enum Record {
     Taken { operation: Operation, next: usize },
     Broken,

@@ -56,7 +56,7 @@ fn fill(slots: &mut [u32], queue: Deque) -> Deque {
 }
 
 // The queue that is moved, and the new one that it is moved into.
-#[derive(Drop)]
+#[derive(Clone, Copy)]
 struct Moving {
     old: Deque,
     new: Deque,

@@ -6,7 +6,7 @@ ghost use Rattle.rules.specs.WholeReplay.{starting};
 use queue::Deque;
 
 // Where a replay stands: in the records, in the last line before element i, or behind it.
-#[derive(Drop)]
+#[derive(Clone, Copy)]
 pub enum Stage {
     Records,
     Elements(usize),
@@ -14,7 +14,7 @@ pub enum Stage {
 }
 
 // A replay between two pieces. Its slots are the caller's.
-#[derive(Drop)]
+#[derive(Clone, Copy)]
 pub struct Playing {
     pub queue: Deque,
     pub stage: Stage,
@@ -22,7 +22,7 @@ pub struct Playing {
 
 // What a call has done: where the replay stands now, how many of the bytes it used, how many records
 // it played, whether the next one was broken, and how many bytes it wrote. A broken record is not used.
-#[derive(Drop)]
+#[derive(Clone, Copy)]
 pub struct Advanced {
     pub playing: Playing,
     pub used: usize,

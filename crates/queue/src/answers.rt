@@ -7,7 +7,7 @@ use super::records::{Deque, Drain, Span, Walk};
 use super::refusals::Refusal;
 
 // The answer of a call that hands nothing over. A refusal hands back the same record.
-#[derive(Drop)]
+#[derive(Clone, Copy)]
 pub enum Change {
     Done {
         queue: Deque,
@@ -32,14 +32,14 @@ pub fn refused(refusal: Refusal, q: Deque) -> Change
 }
 
 // The answer of a call that makes a record, and makes none when refused.
-#[derive(Drop)]
+#[derive(Clone, Copy)]
 pub enum Made {
     Done { queue: Deque, moved: usize },
     Refused { refusal: Refusal, moved: usize },
 }
 
 // The answer of a drain's opening. A refusal hands back the same record.
-#[derive(Drop)]
+#[derive(Clone, Copy)]
 pub enum Opened {
     Done {
         drain: Drain,
@@ -53,7 +53,7 @@ pub enum Opened {
 }
 
 // The answer of a drain's closing.
-#[derive(Drop)]
+#[derive(Clone, Copy)]
 pub enum Closed {
     Done {
         queue: Deque,
@@ -68,7 +68,7 @@ pub enum Closed {
 
 // The answer of `append` and of a portion: the record of the queue called on, and the other's. A refusal hands back the
 // same records.
-#[derive(Drop)]
+#[derive(Clone, Copy)]
 pub enum Joined {
     Done {
         queue: Deque,
@@ -84,7 +84,7 @@ pub enum Joined {
 }
 
 // The answer of `split_off` and of a whole move. A refusal hands back the same record, and makes none.
-#[derive(Drop)]
+#[derive(Clone, Copy)]
 pub enum Split {
     Done {
         queue: Deque,
@@ -99,28 +99,28 @@ pub enum Split {
 }
 
 // The answer of the call for the two ranges.
-#[derive(Drop)]
+#[derive(Clone, Copy)]
 pub enum Ranges {
     Runs { front: Span, back: Span },
     Refused(Refusal),
 }
 
 // The answer of the call that begins a walk.
-#[derive(Drop)]
+#[derive(Clone, Copy)]
 pub enum Begun {
     Walk(Walk),
     Refused(Refusal),
 }
 
 // The answer to a yes-or-no question.
-#[derive(Drop)]
+#[derive(Clone, Copy)]
 pub enum Truth {
     Is(bool),
     Refused(Refusal),
 }
 
 // How two lists stand to each other.
-#[derive(Drop)]
+#[derive(Clone, Copy)]
 pub enum Ordering {
     Less,
     Equal,
@@ -129,7 +129,7 @@ pub enum Ordering {
 }
 
 // The answer of a search: the position where x stands, or the place to insert it.
-#[derive(Drop)]
+#[derive(Clone, Copy)]
 pub enum Searched {
     Found(usize),
     Place(usize),
@@ -137,14 +137,14 @@ pub enum Searched {
 }
 
 // The answer of `partition_point`.
-#[derive(Drop)]
+#[derive(Clone, Copy)]
 pub enum Point {
     At(usize),
     Refused(Refusal),
 }
 
 // The answer of image writing: how many bytes were filled.
-#[derive(Drop)]
+#[derive(Clone, Copy)]
 pub enum Written {
     Bytes(usize),
     Refused(Refusal),

@@ -12,7 +12,7 @@ use places::WrappedIndex;
 
 // Element i stands `i` places on from `head`. The mark is set while elements are still to come, by portions, from the
 // queue that is moved into this one.
-#[derive(Drop)]
+#[derive(Clone, Copy)]
 pub struct Deque {
     pub head: WrappedIndex,
     pub len: usize,
@@ -21,7 +21,7 @@ pub struct Deque {
 
 // The record of an open drain. In front of the drained range stand `start` elements, behind it `tail_len`; of its
 // `drain_len` elements the `remaining` from position `idx` on are not handed over yet.
-#[derive(Drop)]
+#[derive(Clone, Copy)]
 pub struct Drain {
     pub head: WrappedIndex,
     pub start: usize,
@@ -32,14 +32,14 @@ pub struct Drain {
 }
 
 // What a caller keeps of a queue: its record, or that of its open drain.
-#[derive(Drop)]
+#[derive(Clone, Copy)]
 pub enum State {
     Shut(Deque),
     Draining(Drain),
 }
 
 // What is still to be walked: the positions from `low` to before `high`.
-#[derive(Drop)]
+#[derive(Clone, Copy)]
 pub struct Walk {
     pub queue: Deque,
     pub low: usize,
@@ -47,7 +47,7 @@ pub struct Walk {
 }
 
 // A part of the slots: from `start` to before `end`.
-#[derive(Drop)]
+#[derive(Clone, Copy)]
 pub struct Span {
     pub start: usize,
     pub end: usize,

@@ -11,7 +11,7 @@ use super::records::{Deque, Drain, Walk};
 
 // Why a call is refused, by its number from 1 on: too many slots, a record that is not good,
 // a position past the end, no room, bytes that are no image, a move into the queue that is open.
-#[derive(Drop)]
+#[derive(Clone, Copy)]
 pub enum Refusal {
     Slots,
     Record,
@@ -22,7 +22,7 @@ pub enum Refusal {
 }
 
 // What tests say.
-#[derive(Drop)]
+#[derive(Clone, Copy)]
 pub enum Checked {
     Good,
     Refused(Refusal),

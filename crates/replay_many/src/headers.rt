@@ -3,7 +3,7 @@ use streams::Got;
 
 // What stands before the next journal: its length; nothing, since the input is at its end; a part of a length, at which
 // the input ends; or it could not be read, which was said.
-#[derive(Drop)]
+#[derive(Clone, Copy)]
 pub enum Header {
     Length(u32),
     End,

@@ -10,7 +10,7 @@ use replays::{BUFFER, SLOTS};
 use streams::Status;
 
 // Whether more journals may follow one with this status, and with which status of all so far.
-#[derive(Drop)]
+#[derive(Clone, Copy)]
 enum Going {
     On(Status),
     End(Status),

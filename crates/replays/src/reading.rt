@@ -6,7 +6,7 @@ use streams::Got;
 
 // What became of bytes that are to be passed over: none is left, or the input ended before and so many are, or the read
 // failed, which was said.
-#[derive(Drop)]
+#[derive(Clone, Copy)]
 pub enum Passed {
     All,
     Missing(u64),

@@ -7,7 +7,7 @@ use plays::{Advanced, Playing, Stage};
 use streams::{Got, Status};
 
 // Where a journal broke: its record, counted from 1, and the byte at which that begins, counted from 0.
-#[derive(Drop)]
+#[derive(Clone, Copy)]
 pub enum Broken {
     No,
     At { record: u64, byte: u64 },
@@ -15,7 +15,7 @@ pub enum Broken {
 
 // How a replay ended: how many bytes of the limit were not read, whether the journal broke, and the
 // status. A read or a write that failed was said.
-#[derive(Drop)]
+#[derive(Clone, Copy)]
 pub struct Replayed {
     pub unread: u64,
     pub broken: Broken,
@@ -23,7 +23,7 @@ pub struct Replayed {
 }
 
 // What a replay does next: it plays what was read, which is the last of it or not, reads on, or has ended.
-#[derive(Drop)]
+#[derive(Clone, Copy)]
 enum Going {
     Play { last: bool },
     Read,
@@ -32,7 +32,7 @@ enum Going {
 
 // A replay between two steps: where it stands in the journal, the records that it played, whether the journal broke,
 // the bytes that wait in the input's buffer, and those that may still be read.
-#[derive(Drop)]
+#[derive(Clone, Copy)]
 struct Run {
     playing: Playing,
     records: u64,
@@ -77,7 +77,7 @@ fn after(stage: Stage, broken: Broken, written: usize, open: bool, last: bool) -
 }
 
 // What playing a piece came to, and whether its lines were written.
-#[derive(Drop)]
+#[derive(Clone, Copy)]
 struct Played {
     advanced: Advanced,
     open: bool,

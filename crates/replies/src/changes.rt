@@ -17,7 +17,7 @@ use queue::{Change, Joined, Made, Refusal, Split};
 // What such a call says: `refused` is the refusal number, or 0;
 // `handed` is 1 where `number` was handed over, else both are 0.
 #[repr(C)]
-#[derive(Drop)]
+#[derive(Clone, Copy)]
 pub struct Reply {
     pub refused: u16,
     pub handed: u16,

@@ -5,7 +5,7 @@ ghost use Rattle.replies.specs.Kinds.{test_in, of_asked};
 use conditions::Test;
 
 // The test that was asked for, if there is one of that kind.
-#[derive(Drop)]
+#[derive(Clone, Copy)]
 pub enum Asked {
     For(Test),
     Unknown,

@@ -11,7 +11,7 @@ use queue::{Ordering, Point, Searched, Truth, Written};
 
 // What a look at one element answers: `found` is 1 where `number` stands there, else both are 0.
 #[repr(C)]
-#[derive(Drop)]
+#[derive(Clone, Copy)]
 pub struct FoundReply {
     pub refused: u16,
     pub found: u16,
@@ -20,7 +20,7 @@ pub struct FoundReply {
 
 // What a yes-or-no question answers.
 #[repr(C)]
-#[derive(Drop)]
+#[derive(Clone, Copy)]
 pub struct TruthReply {
     pub refused: u16,
     pub is: bool,
@@ -28,7 +28,7 @@ pub struct TruthReply {
 
 // How two lists stand to each other: 1 less, 2 equal, 3 greater; refused, 0.
 #[repr(C)]
-#[derive(Drop)]
+#[derive(Clone, Copy)]
 pub struct OrderReply {
     pub refused: u16,
     pub order: u16,
@@ -36,7 +36,7 @@ pub struct OrderReply {
 
 // What a search answers: `found` is 1 and `position` is where x stands, or 0 and where to insert it.
 #[repr(C)]
-#[derive(Drop)]
+#[derive(Clone, Copy)]
 pub struct SearchReply {
     pub refused: u16,
     pub found: u16,
@@ -45,7 +45,7 @@ pub struct SearchReply {
 
 // A number of elements or of bytes.
 #[repr(C)]
-#[derive(Drop)]
+#[derive(Clone, Copy)]
 pub struct CountReply {
     pub refused: u16,
     pub count: usize,

@@ -7,7 +7,7 @@ use native.Mathlib.Omega.{arith}
 use lib.Dec.{eqb}
 use lib.ListN.{length, take, drop, length-append, length-take, length-drop}
 use Rattle.holes.proofs.Closes.{lay-over}
-use Rattle.queue.proofs.Ranges.{range_go, range_stop}
+use Rattle.queue.proofs.RangeChecks.{range_go, range_stop}
 use Rattle.queue.proofs.Numbers.{some_number}
 use Rattle.queue.specs.Answers.{number_of}
 use Rattle.rules.proofs.Made.{map-brought}

@@ -4,7 +4,7 @@ ghost use Rattle.streams.specs.Outcomes as rules;
 
 // What one call of read or write came to: so many bytes, at least one; none; a signal came between or nothing is ready
 // yet, and the call is to be made again; it failed, and errno says why.
-#[derive(Drop)]
+#[derive(Clone, Copy)]
 pub enum Outcome {
     Moved(usize),
     Nothing,

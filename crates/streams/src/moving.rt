@@ -8,7 +8,7 @@ use crate::waiting::wait;
 use libc::EAGAIN;
 
 // What a read came to: so many bytes, at least one; the end of the input; or it failed, and errno says why.
-#[derive(Drop)]
+#[derive(Clone, Copy)]
 pub enum Got {
     Bytes(usize),
     End,
@@ -16,7 +16,7 @@ pub enum Got {
 }
 
 // What a write came to: all bytes are written, or it failed, and errno says why.
-#[derive(Drop)]
+#[derive(Clone, Copy)]
 pub enum Put {
     All,
     Failed(i32),

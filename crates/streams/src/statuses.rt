@@ -3,7 +3,7 @@
 use crate::moving::write;
 
 // How a program ended.
-#[derive(Drop)]
+#[derive(Clone, Copy)]
 pub enum Status {
     Well,
     Broken,

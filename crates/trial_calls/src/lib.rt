@@ -13,7 +13,7 @@ use trial_text::said::put_done;
 use trial_text::{call, well_formed};
 
 // What a call does.
-#[derive(Drop)]
+#[derive(Clone, Copy)]
 enum Doing {
     Change,
     Look,

@@ -4,14 +4,14 @@ use turns::Side;
 use vec_deque::{Deque, Drain, Walk, WrappedIndex};
 
 // A queue's walk, if it has one.
-#[derive(Drop)]
+#[derive(Clone, Copy)]
 pub enum Walking {
     Still,
     Begun(Walk),
 }
 
 // A queue's record or that of its open drain, and its walk.
-#[derive(Drop)]
+#[derive(Clone, Copy)]
 pub struct Kept {
     pub state: State,
     pub walk: Walking,
@@ -80,21 +80,21 @@ impl Kept {
 }
 
 // The two queues.
-#[derive(Drop)]
+#[derive(Clone, Copy)]
 pub struct Queues {
     pub a: Kept,
     pub b: Kept,
 }
 
 // After a call: the two queues, and the bytes that the output's buffer holds.
-#[derive(Drop)]
+#[derive(Clone, Copy)]
 pub struct Called {
     pub queues: Queues,
     pub at: usize,
 }
 
 // After a call on one queue that changes no slot: the same of that queue.
-#[derive(Drop)]
+#[derive(Clone, Copy)]
 pub struct CalledOne {
     pub kept: Kept,
     pub at: usize,

@@ -5,7 +5,7 @@ use trial_calls::{Queues, fill, is_call, make_call, quiet, record};
 use trial_text::{First, Piece, Read, first_line, flush, has_failed, next_words};
 
 // After a line: the piece of the input behind it, the two queues, and the bytes that the output's buffer holds.
-#[derive(Drop)]
+#[derive(Clone, Copy)]
 struct Now {
     piece: Piece,
     queues: Queues,
@@ -13,7 +13,7 @@ struct Now {
 }
 
 // Whether the run goes on; a read or a write that failed was said.
-#[derive(Drop)]
+#[derive(Clone, Copy)]
 enum Progress {
     On(Now),
     Broken,
@@ -23,7 +23,7 @@ enum Progress {
 }
 
 // What a script leaves: the bytes that the output's buffer holds, and the status.
-#[derive(Drop)]
+#[derive(Clone, Copy)]
 struct Played {
     at: usize,
     status: Status,

@@ -20,7 +20,7 @@ pub const RECORD: usize = 3;
 const DRAIN: usize = 6;
 
 // The words that a call takes. A list is its count and that many values.
-#[derive(Drop)]
+#[derive(Clone, Copy)]
 enum Form {
     Numbers(usize),
     Record,

@@ -2,14 +2,14 @@
 use streams::Got;
 
 // How much of the piece in the buffer was used, and how many bytes it has.
-#[derive(Drop)]
+#[derive(Clone, Copy)]
 pub struct Piece {
     pub used: usize,
     pub end: usize,
 }
 
 // The next byte of the input, with the piece behind it. A read that failed was said.
-#[derive(Drop)]
+#[derive(Clone, Copy)]
 pub enum Byte {
     Read { byte: u8, piece: Piece },
     End,
@@ -17,7 +17,7 @@ pub enum Byte {
 }
 
 // The next line of the input, its bytes counted without the newline.
-#[derive(Drop)]
+#[derive(Clone, Copy)]
 pub enum Line {
     Whole { len: usize, piece: Piece },
     TooLong,

@@ -6,28 +6,28 @@ use crate::reading::{Line, Piece, next_line, nothing_read};
 const LINE: usize = 4001;
 
 // A number that grows by digits.
-#[derive(Drop)]
+#[derive(Clone, Copy)]
 enum Grown {
     Number(usize),
     Broken,
 }
 
 // One word: its number, and where it ends.
-#[derive(Drop)]
+#[derive(Clone, Copy)]
 enum Word {
     Number { number: usize, end: usize },
     Broken,
 }
 
 // How many words a line has.
-#[derive(Drop)]
+#[derive(Clone, Copy)]
 enum Words {
     Count(usize),
     Broken,
 }
 
 // How many words the next line has, with the piece of the input behind it.
-#[derive(Drop)]
+#[derive(Clone, Copy)]
 pub enum Read {
     Words { count: usize, piece: Piece },
     Broken,
@@ -36,7 +36,7 @@ pub enum Read {
 }
 
 // What a script's first line gives.
-#[derive(Drop)]
+#[derive(Clone, Copy)]
 pub enum First {
     Capacities { a: usize, b: usize, piece: Piece },
     Broken,

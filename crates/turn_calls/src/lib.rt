@@ -3,7 +3,7 @@
 use conditions::Test;
 
 // Calls that hand nothing over and take numbers alone.
-#[derive(Drop)]
+#[derive(Clone, Copy)]
 pub enum Edit {
     PushBack(u32),
     PushFront(u32),
@@ -17,7 +17,7 @@ pub enum Edit {
 }
 
 // Calls that take the values that are lent with them.
-#[derive(Drop)]
+#[derive(Clone, Copy)]
 pub enum Join {
     Extend,
     Prepend,
@@ -26,7 +26,7 @@ pub enum Join {
 }
 
 // Calls that hand an element over.
-#[derive(Drop)]
+#[derive(Clone, Copy)]
 pub enum Removal {
     PopFront,
     PopBack,
@@ -38,7 +38,7 @@ pub enum Removal {
 }
 
 // The calls that can change a queue of which no drain is open. `ReadImage` takes the bytes that are lent with it.
-#[derive(Drop)]
+#[derive(Clone, Copy)]
 pub enum QueueChange {
     Editing(Edit),
     Joining(Join),
@@ -50,7 +50,7 @@ pub enum QueueChange {
 
 // The calls that only look at it. Not among them: a walk's, which keeps a record of its own, and `write_image`, to
 // which bytes are lent to be written.
-#[derive(Drop)]
+#[derive(Clone, Copy)]
 pub enum Ask {
     Get(usize),
     Front,
@@ -62,14 +62,14 @@ pub enum Ask {
 }
 
 // Both.
-#[derive(Drop)]
+#[derive(Clone, Copy)]
 pub enum QueueCall {
     Changing(QueueChange),
     Asking(Ask),
 }
 
 // The calls of its open drain.
-#[derive(Drop)]
+#[derive(Clone, Copy)]
 pub enum DrainCall {
     Next,
     NextBack,
@@ -77,7 +77,7 @@ pub enum DrainCall {
 }
 
 // The calls that only look at two queues.
-#[derive(Drop)]
+#[derive(Clone, Copy)]
 pub enum AskBoth {
     Eq,
     Cmp,
@@ -85,7 +85,7 @@ pub enum AskBoth {
 
 // The calls on two queues of which no drain is open: `Append` takes the other queue's elements, `SplitOff` and `MoveAll`
 // fill the other's slots, `MovePortion` passes elements on to the other.
-#[derive(Drop)]
+#[derive(Clone, Copy)]
 pub enum PairCall {
     Append,
     SplitOff(usize),
@@ -95,7 +95,7 @@ pub enum PairCall {
 }
 
 // A call on a queue, of its drain, or on both.
-#[derive(Drop)]
+#[derive(Clone, Copy)]
 pub enum Call {
     OfQueue(QueueCall),
     OfDrain(DrainCall),
@@ -103,7 +103,7 @@ pub enum Call {
 }
 
 // The queue that a call is made on.
-#[derive(Drop)]
+#[derive(Clone, Copy)]
 pub enum Side {
     A,
     B,

@@ -79,7 +79,7 @@ pub fn walk_after(step: Stepped) -> Walk
 }
 
 // A walk that borrows the slots.
-#[derive(Drop)]
+#[derive(Clone, Copy)]
 pub struct Iterator<'a> {
     pub slots: &'a [u32],
     pub queue: Deque,
@@ -88,7 +88,7 @@ pub struct Iterator<'a> {
 }
 
 // What a step of such a walk leaves: the same slots, and the step's answer with the walk after it.
-#[derive(Drop)]
+#[derive(Clone, Copy)]
 pub struct IteratorStep<'a> {
     pub slots: &'a [u32],
     pub step: Stepped,

@@ -1,0 +1,6 @@
+-- `queue::closed_record` meets its contract. Assumes nothing.
+use borrow.Author.Rules.{rules}
+use Rattle.queue.proofs.records.closed_record.Goals as goal
+
+pub returns : goal.returns
+returns c = rw (c.stepped.ensures, c.as_opened.ensures, c.head_over.ensures)

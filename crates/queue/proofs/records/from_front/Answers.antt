@@ -1,0 +1,8 @@
+-- `queue::from_front` meets its contract. Assumes nothing.
+use borrow.Author.Rules.{rules}
+use Rattle.rules.specs.Drains.{from_front}
+use Rattle.queue.proofs.records.from_front.Goals as goal
+
+pub returns : goal.returns
+unfolding from_front
+returns c = c.one_less.ensures

@@ -1,0 +1,13 @@
+-- `stretches::leaves::copy_front` meets its contract. The invariant: the first i elements are copied. Assumes nothing.
+use mathlib.Core.Path.{refl}
+use Prim.Native.Nat.{◌-◌}
+use lib.ListN.{length}
+use Rattle.stretches.proofs.Fronts.{Laid, none, next, all}
+use borrow.Author.Rules.{rules}
+use Rattle.stretches.proofs.leaves.copy_front.Given as goal
+
+abbrev pub invariant-loop-i : goal.invariant-loop-i
+invariant-loop-i l = Laid l.src l.initial.dst l.dst l.i
+
+abbrev pub decreases-loop-i : goal.decreases-loop-i
+decreases-loop-i l = length l.src - l.i

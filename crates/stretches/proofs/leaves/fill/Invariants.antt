@@ -1,0 +1,14 @@
+-- `stretches::leaves::fill` meets its contract. The invariant: the first i slots are v. Assumes nothing.
+use mathlib.Core.Path.{sym}
+use Prim.Native.Nat.{◌-◌}
+use native.Mathlib.Omega.{arith}
+use lib.ListN.{replicate, length-replicate, get_or-replicate}
+use Rattle.stretches.proofs.Fronts.{Laid, none, next, all}
+use borrow.Author.Rules.{rules}
+use Rattle.stretches.proofs.leaves.fill.Given as goal
+
+abbrev pub invariant-loop-i : goal.invariant-loop-i
+invariant-loop-i l = Laid (replicate l.n l.v) l.initial.dst l.dst l.i
+
+abbrev pub decreases-loop-i : goal.decreases-loop-i
+decreases-loop-i l = l.n - l.i
