@@ -1,0 +1,45 @@
+-- `joins::queues::check_append` meets its contract. Assumes nothing.
+use mathlib.Core.Path.{◌≡◌}
+use native.Mathlib.Omega.{arith}
+use borrow.Author.Rules.{rules}
+use Rattle.extends.proofs.Asks.{queue-refuses, queue-passes, room-refuses, room-passes}
+use Rattle.queue.proofs.Checks.{passed_zero}
+use Rattle.queue.specs.Answers.{rec_of}
+use Rattle.rules.proofs.Refusals.{change_ok}
+use Rattle.rules.specs.Pairs.{on_appending}
+use Rattle.rules.specs.Refusals.{on_change}
+use Rattle.joins.proofs.queues.check_append.Goals.{In_default, In_default-check_change}
+use Rattle.joins.proofs.queues.check_append.Goals as goal
+
+-- past our queue's tests, and past the other's, nothing is refused
+past : (c : In_default)
+    → on_change c.args.cap (rec_of c.args.q) 0 ≡ 0
+past c = passed_zero _ _ c.check_change.ensures c.in_default.is
+
+past-other : (c : In_default-check_change)
+    → on_change c.args.other_cap
+    (rec_of c.args.other) 0 ≡ 0
+past-other c = passed_zero _ _ c.check_change-2.ensures c.in_default-check_change.is
+
+pub returns-in-Refused : goal.returns-in-Refused
+unfolding on_appending
+returns-in-Refused c = queue-refuses _ _ _ _ _ c.check_change.ensures c.in-Refused.is
+
+pub returns-in-Refused-check_change : goal.returns-in-Refused-check_change
+unfolding on_appending
+returns-in-Refused-check_change c = queue-passes _ _ _ _ (past c.before.before.before.before)
+    (queue-refuses _ _ _ _ _ c.check_change-2.ensures c.in-Refused-check_change.is)
+
+pub overflow_sub-cap : goal.overflow_sub-cap
+overflow_sub-cap c = let g = (change_ok _ _ 0 (past c.before.before.before.before)).0 in omega arith
+
+pub returns-then-other-cap : goal.returns-then-other-cap
+unfolding on_appending
+returns-then-other-cap c = queue-passes _ _ _ _ (past c.before.before.before.before.before.before)
+    (queue-passes _ _ _ _ (past-other c.before.before.before) (room-refuses _ _ (omega arith)))
+
+pub returns : goal.returns
+unfolding on_appending
+returns c = let g = (change_ok _ _ 0 (past c.before.before.before.before.before.before)).0 in queue-passes _ _
+    _ _ (past c.before.before.before.before.before.before)
+    (queue-passes _ _ _ _ (past-other c.before.before.before) (room-passes _ _ (omega arith)))
