@@ -66,7 +66,7 @@ fill-requires c =
 pub overflow_add-left-2 : goal.overflow_add-left-2
 overflow_add-left-2 c = let k = range_ok _ _ _ _
     (let it : in_range c.args.q.len c.args.start c.args.end 0 ≡ 0 = passed_zero _ _ c.check_range.ensures c.in_default-check_range.is in it) in let g = ((let it : Fine c.args.slots.now (rec_of c.args.q) = fine_change _ _ (let it : on_change (length c.args.slots.now) (rec_of c.args.q) 0 ≡ 0 = passed_zero _ _ c.check_change.ensures c.in_default.is in it) in it)
-    ).well_formed in omega arith
+    ).good in omega arith
 
 pub returns : goal.returns
 returns c =

@@ -8,18 +8,7 @@ use Rattle.queue.specs.Answers.{rec_of}
 use Rattle.rules.proofs.Refusals.{change_ok}
 use Rattle.rules.specs.Pairs.{on_appending}
 use Rattle.rules.specs.Refusals.{on_change}
-use Rattle.joins.proofs.queues.check_append.Goals.{In_default, In_default-check_change}
 use Rattle.joins.proofs.queues.check_append.Goals as goal
-
--- past our queue's tests, and past the other's, nothing is refused
-past : (c : In_default)
-    → on_change c.args.cap (rec_of c.args.q) 0 ≡ 0
-past c = passed_zero _ _ c.check_change.ensures c.in_default.is
-
-past-other : (c : In_default-check_change)
-    → on_change c.args.other_cap
-    (rec_of c.args.other) 0 ≡ 0
-past-other c = passed_zero _ _ c.check_change-2.ensures c.in_default-check_change.is
 
 pub returns-in-Refused : goal.returns-in-Refused
 unfolding on_appending
@@ -27,19 +16,19 @@ returns-in-Refused c = queue-refuses _ _ _ _ _ c.check_change.ensures c.in-Refus
 
 pub returns-in-Refused-check_change : goal.returns-in-Refused-check_change
 unfolding on_appending
-returns-in-Refused-check_change c = queue-passes _ _ _ _ (past c.before.before.before.before)
+returns-in-Refused-check_change c = queue-passes _ _ _ _ (let it : on_change c.args.cap (rec_of c.args.q) 0 ≡ 0 = passed_zero _ _ c.check_change.ensures c.in_default.is in it)
     (queue-refuses _ _ _ _ _ c.check_change-2.ensures c.in-Refused-check_change.is)
 
 pub overflow_sub-cap : goal.overflow_sub-cap
-overflow_sub-cap c = let g = (change_ok _ _ 0 (past c.before.before.before.before)).0 in omega arith
+overflow_sub-cap c = let g = (change_ok _ _ 0 (let it : on_change c.args.cap (rec_of c.args.q) 0 ≡ 0 = passed_zero _ _ c.check_change.ensures c.in_default.is in it)).0 in omega arith
 
 pub returns-then-other-cap : goal.returns-then-other-cap
 unfolding on_appending
-returns-then-other-cap c = queue-passes _ _ _ _ (past c.before.before.before.before.before.before)
-    (queue-passes _ _ _ _ (past-other c.before.before.before) (room-refuses _ _ (omega arith)))
+returns-then-other-cap c = queue-passes _ _ _ _ (let it : on_change c.args.cap (rec_of c.args.q) 0 ≡ 0 = passed_zero _ _ c.check_change.ensures c.in_default.is in it)
+    (queue-passes _ _ _ _ (let it : on_change c.args.other_cap (rec_of c.args.other) 0 ≡ 0 = passed_zero _ _ c.check_change-2.ensures c.in_default-check_change.is in it) (room-refuses _ _ (omega arith)))
 
 pub returns : goal.returns
 unfolding on_appending
-returns c = let g = (change_ok _ _ 0 (past c.before.before.before.before.before.before)).0 in queue-passes _ _
-    _ _ (past c.before.before.before.before.before.before)
-    (queue-passes _ _ _ _ (past-other c.before.before.before) (room-passes _ _ (omega arith)))
+returns c = let g = (change_ok _ _ 0 (let it : on_change c.args.cap (rec_of c.args.q) 0 ≡ 0 = passed_zero _ _ c.check_change.ensures c.in_default.is in it)).0 in queue-passes _ _
+    _ _ (let it : on_change c.args.cap (rec_of c.args.q) 0 ≡ 0 = passed_zero _ _ c.check_change.ensures c.in_default.is in it)
+    (queue-passes _ _ _ _ (let it : on_change c.args.other_cap (rec_of c.args.other) 0 ≡ 0 = passed_zero _ _ c.check_change-2.ensures c.in_default-check_change.is in it) (room-passes _ _ (omega arith)))

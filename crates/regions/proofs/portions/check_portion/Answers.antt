@@ -9,18 +9,7 @@ use Rattle.regions.proofs.Asks.{new_refuses, new_passes}
 use Rattle.rules.proofs.Refusals.{queue_ok}
 use Rattle.rules.specs.Refusals.{on_change, on_queue}
 use Rattle.rules.specs.Regions.{on_portion}
-use Rattle.regions.proofs.portions.check_portion.Goals.{In_default, In_default-check}
 use Rattle.regions.proofs.portions.check_portion.Goals as goal
-
--- past the old queue's tests, and past the new one's, nothing is refused
-past : (c : In_default)
-    → on_change c.args.cap (rec_of c.args.q) 0 ≡ 0
-past c = passed_zero _ _ c.check_change.ensures c.in_default.is
-
-past-new : (c : In_default-check)
-    → on_queue c.args.target_cap
-    (rec_of c.args.other) 0 ≡ 0
-past-new c = passed_zero _ _ c.check.ensures c.in_default-check.is
 
 pub returns-in-Refused : goal.returns-in-Refused
 unfolding on_portion
@@ -28,22 +17,22 @@ returns-in-Refused c = queue-refuses _ _ _ _ _ c.check_change.ensures c.in-Refus
 
 pub returns-in-Refused-check : goal.returns-in-Refused-check
 unfolding on_portion
-returns-in-Refused-check c = queue-passes _ _ _ _ (past c.before.before.before.before)
+returns-in-Refused-check c = queue-passes _ _ _ _ (let it : on_change c.args.cap (rec_of c.args.q) 0 ≡ 0 = passed_zero _ _ c.check_change.ensures c.in_default.is in it)
     (new_refuses _ _ _ _ _ c.check.ensures c.in-Refused-check.is)
 
 pub overflow_sub-target_cap : goal.overflow_sub-target_cap
-overflow_sub-target_cap c = let g = (queue_ok _ _ 0 (past-new c.before.before)).0 in omega arith
+overflow_sub-target_cap c = let g = (queue_ok _ _ 0 (let it : on_queue c.args.target_cap (rec_of c.args.other) 0 ≡ 0 = passed_zero _ _ c.check.ensures c.in_default-check.is in it)).0 in omega arith
 
 pub returns-then-portion_of-target_cap : goal.returns-then-portion_of-target_cap
 unfolding on_portion
-returns-then-portion_of-target_cap c = queue-passes _ _ _ _ (past c.before.before.before.before.before.before)
-    (new_passes _ _ _ _ (past-new c.before.before.before)
+returns-then-portion_of-target_cap c = queue-passes _ _ _ _ (let it : on_change c.args.cap (rec_of c.args.q) 0 ≡ 0 = passed_zero _ _ c.check_change.ensures c.in_default.is in it)
+    (new_passes _ _ _ _ (let it : on_queue c.args.target_cap (rec_of c.args.other) 0 ≡ 0 = passed_zero _ _ c.check.ensures c.in_default-check.is in it)
     (room-refuses _ _ (omega (arith, c.portion_of.ensures))))
 
 pub returns : goal.returns
 unfolding on_portion
 returns c =
-    let g = (queue_ok _ _ 0 (past-new c.before.before.before)).0 in
-    queue-passes _ _ _ _ (past c.before.before.before.before.before.before)
-    (new_passes _ _ _ _ (past-new c.before.before.before)
+    let g = (queue_ok _ _ 0 (let it : on_queue c.args.target_cap (rec_of c.args.other) 0 ≡ 0 = passed_zero _ _ c.check.ensures c.in_default-check.is in it)).0 in
+    queue-passes _ _ _ _ (let it : on_change c.args.cap (rec_of c.args.q) 0 ≡ 0 = passed_zero _ _ c.check_change.ensures c.in_default.is in it)
+    (new_passes _ _ _ _ (let it : on_queue c.args.target_cap (rec_of c.args.other) 0 ≡ 0 = passed_zero _ _ c.check.ensures c.in_default-check.is in it)
     (room-passes _ _ (omega (arith, c.portion_of.ensures))))

@@ -42,7 +42,7 @@ overflow_add-theirs c =
 
 pub returns : goal.returns
 returns c =
-    portion-done _ _ _ _ _ (past c.before.before.before.before.before.before.before.before.before.before.before.before.before) _ _ _ _ _ _ _ _ c.portion_of-portion.ensures
+    portion-done _ _ _ _ _ (let it : on_portion (length c.args.slots.now) (rec_of c.args.q) (length c.args.target.now) (rec_of c.args.other) c.args.n ≡ 0 = passed_zero _ _ c.check_portion.ensures c.in_default.is in it) _ _ _ _ _ _ _ _ c.portion_of-portion.ensures
     c.wrap_add-behind.ensures c.copy_range.ensures
     c.wrap_add-first.ensures c.head_over.ensures
     c.stepped.ensures c.stepped-grown.ensures c.with_mark.ensures

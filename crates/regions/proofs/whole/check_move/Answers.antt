@@ -7,13 +7,7 @@ use Rattle.queue.proofs.Checks.{passed_zero}
 use Rattle.queue.specs.Answers.{rec_of}
 use Rattle.rules.specs.Refusals.{on_change}
 use Rattle.rules.specs.Regions.{on_moving}
-use Rattle.regions.proofs.whole.check_move.Goals.{In_default}
 use Rattle.regions.proofs.whole.check_move.Goals as goal
-
--- past our queue's tests nothing is refused
-past : (c : In_default)
-    → on_change c.args.cap (rec_of c.args.q) 0 ≡ 0
-past c = passed_zero _ _ c.check_change.ensures c.in_default.is
 
 pub returns-in-Refused : goal.returns-in-Refused
 unfolding on_moving
@@ -21,15 +15,15 @@ returns-in-Refused c = queue-refuses _ _ _ _ _ c.check_change.ensures c.in-Refus
 
 pub returns-then-target_cap-most_slots : goal.returns-then-target_cap-most_slots
 unfolding on_moving
-returns-then-target_cap-most_slots c = queue-passes _ _ _ _ (past c.before.before)
+returns-then-target_cap-most_slots c = queue-passes _ _ _ _ (let it : on_change c.args.cap (rec_of c.args.q) 0 ≡ 0 = passed_zero _ _ c.check_change.ensures c.in_default.is in it)
     (slots_refuse _ _ (omega (arith, c.most_slots.ensures)))
 
 pub returns-then-q-target_cap : goal.returns-then-q-target_cap
 unfolding on_moving
-returns-then-q-target_cap c = queue-passes _ _ _ _ (past c.before.before.before.before)
+returns-then-q-target_cap c = queue-passes _ _ _ _ (let it : on_change c.args.cap (rec_of c.args.q) 0 ≡ 0 = passed_zero _ _ c.check_change.ensures c.in_default.is in it)
     (slots_pass _ _ _ (omega (arith, c.most_slots.ensures)) (room-refuses _ _ (omega arith)))
 
 pub returns : goal.returns
 unfolding on_moving
-returns c = queue-passes _ _ _ _ (past c.before.before.before.before)
+returns c = queue-passes _ _ _ _ (let it : on_change c.args.cap (rec_of c.args.q) 0 ≡ 0 = passed_zero _ _ c.check_change.ensures c.in_default.is in it)
     (slots_pass _ _ _ (omega (arith, c.most_slots.ensures)) (room-passes _ _ (omega arith)))

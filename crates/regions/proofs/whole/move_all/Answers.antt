@@ -20,5 +20,5 @@ copy_range-requires c =
 
 pub returns : goal.returns
 returns c =
-    move_done _ _ _ (past c.before.before.before.before.before.before.before) _ _ _ _ c.zero-first.ensures
+    move_done _ _ _ (let it : on_moving (length c.args.slots.now) (rec_of c.args.q) (length c.args.target.now) ≡ 0 = passed_zero _ _ c.check_move.ensures c.in_default.is in it) _ _ _ _ c.zero-first.ensures
     c.copy_range.ensures c.stepped.ensures c.new_record.ensures

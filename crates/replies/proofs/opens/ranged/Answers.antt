@@ -8,8 +8,8 @@ use Rattle.replies.proofs.opens.ranged.Goals as goal
 
 pub returns-in-Runs : goal.returns-in-Runs
 returns-in-Runs c = arm_two (runs_in_c _) of_ranges _ _ _ _ _ _ refl c.store_runs.ensures refl
-    c.ranges.given.1
+    c.in-Runs.is
 
 pub returns-in-Refused : goal.returns-in-Refused
 returns-in-Refused c = arm_two (runs_in_c _) of_ranges _ _ _ _ _ _ c.number_of.ensures refl refl
-    c.in-Runs.is
+    c.in-Refused.is
