@@ -3,18 +3,19 @@ use native.Mathlib.Omega.{arith}
 use Rattle.elements.specs.Answers.{of_given}
 use Rattle.lines.proofs.Words.{says, says_nothing}
 use borrow.Author.Rules.{rules}
+use borrow.Enum.Refused.{opened}
 use Rattle.lines.proofs.lines.put_handed.Goals as goal
 
 pub returns-in-PopFront : goal.returns-in-PopFront
 returns-in-PopFront c = (
   says _ _ c.args.operation _ _ _
-      c.in_default.in_default-own.keys1 c.put_given.ensures.0,
+      c.in-PopFront.is c.put_given.ensures.0,
   c.put_given.ensures.1,
 )
 
 pub returns-in_default : goal.returns-in_default
 returns-in_default c = (
   says_nothing _ _ c.args.operation (of_given c.args.handed)
-      c.in_default.in_default-own.keys2,
+      (opened c.in_default.in_default-own.keys2),
   omega arith,
 )

@@ -16,4 +16,4 @@ returns-in-OfDrain c =
 pub returns-in-OfBoth : goal.returns-in-OfBoth
 returns-in-OfBoth c =
     call_known _ _ _ _ _ _ _ _ _ c.in-OfBoth.is
-    c.on_both_lem.ensures
+    c.before.before.before.before.on_both.ensures
