@@ -3,7 +3,7 @@ use native.Mathlib.Omega.{arith}
 use Rattle.elements.specs.Answers.{of_given}
 use Rattle.lines.proofs.Words.{says, says_nothing}
 use borrow.Author.Rules.{rules}
-use borrow.Enum.Refused.{opened}
+use mathlib.Core.Logic.{⊎_elim}
 use Rattle.lines.proofs.lines.put_handed.Goals as goal
 
 pub returns-in-PopFront : goal.returns-in-PopFront
@@ -16,6 +16,6 @@ returns-in-PopFront c = (
 pub returns-in_default : goal.returns-in_default
 returns-in_default c = (
   says_nothing _ _ c.args.operation (of_given c.args.handed)
-      (opened c.in_default.in_default-own.keys2),
+      (⊎_elim c.in_default.not-PopFront (⊎_elim c.in_default.not-PopBack (λ k. c.in_default.not-Remove k.0 k.1))),
   omega arith,
 )
