@@ -20,7 +20,7 @@ pub offset_bounds-slots-i : goal.offset_bounds-slots-i
 offset_bounds-slots-i c = let k : c.as_index-i.result < length c.args.slots.now = let a = c.args in let p = c.requires.head_in_bounds in omega ( arith, c.as_index-i.ensures, c.wrap_add-to.ensures, place-low (length a.slots.now) a.back.0 (let it : c.args.back.0 < length c.args.slots.now = let a = c.args in omega ( arith, place-low (length a.slots.now) a.head.0 c.requires.head_in_bounds.0 (length a.slots.now - 1) (omega arith), ) in it) a.index (omega arith), ) in omega arith
 
 pub bounds-slots-i : goal.bounds-slots-i
-bounds-slots-i c = let k : c.as_index-i.result < length c.args.slots.now = let a = c.args in let p = c.requires.head_in_bounds in omega ( arith, c.as_index-i.ensures, c.wrap_add-to.ensures, place-low (length a.slots.now) a.back.0 (let it : c.args.back.0 < length c.args.slots.now = let a = c.args in omega ( arith, place-low (length a.slots.now) a.head.0 c.requires.head_in_bounds.0 (length a.slots.now - 1) (omega arith), ) in it) a.index (omega arith), ) in let l = c.wrap_copy.auto.0 in omega arith
+bounds-slots-i c = let k : c.as_index-i.result < length c.args.slots.now = let a = c.args in let p = c.requires.head_in_bounds in omega ( arith, c.as_index-i.ensures, c.wrap_add-to.ensures, place-low (length a.slots.now) a.back.0 (let it : c.args.back.0 < length c.args.slots.now = let a = c.args in omega ( arith, place-low (length a.slots.now) a.head.0 c.requires.head_in_bounds.0 (length a.slots.now - 1) (omega arith), ) in it) a.index (omega arith), ) in let l = c.wrap_copy.auto.slots in omega arith
 
 pub returns : goal.returns
 returns c =

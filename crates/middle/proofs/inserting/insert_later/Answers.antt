@@ -22,7 +22,7 @@ pub offset_bounds-slots-i : goal.offset_bounds-slots-i
 offset_bounds-slots-i c = let k : c.as_index-i.result < length c.args.slots.now = let a = c.args in let p = c.requires in omega ( arith, c.as_index-i.ensures, c.wrap_add-from.ensures, place-low (length a.slots.now) a.head.0 p.0 a.index (omega arith), ) in omega arith
 
 pub bounds-slots-i : goal.bounds-slots-i
-bounds-slots-i c = let k : c.as_index-i.result < length c.args.slots.now = let a = c.args in let p = c.requires in omega ( arith, c.as_index-i.ensures, c.wrap_add-from.ensures, place-low (length a.slots.now) a.head.0 p.0 a.index (omega arith), ) in let l = c.wrap_copy.auto.0 in omega arith
+bounds-slots-i c = let k : c.as_index-i.result < length c.args.slots.now = let a = c.args in let p = c.requires in omega ( arith, c.as_index-i.ensures, c.wrap_add-from.ensures, place-low (length a.slots.now) a.head.0 p.0 a.index (omega arith), ) in let l = c.wrap_copy.auto.slots in omega arith
 
 pub returns : goal.returns
 returns c =
