@@ -14,7 +14,7 @@ returns-in-5 c = ⊎_elim (λ e. ap length_of (sym e)) (λ e. ap length_of (sym 
 
 pub returns-in-3 : goal.returns-in-3
 unfolding length_of whether
-returns-in-3 c = either_of _ 3 (λ (k : ℕ). 2 ≡ length_of k) refl refl c.in_default.if-o-lt3-own.false c.in_default.if-o-lt5-own.true
+returns-in-3 c = either_of c.args.o 3 (λ (k : ℕ). 2 ≡ length_of k) refl refl (omega arith) (omega arith)
 
 pub returns-in_default : goal.returns-in_default
 returns-in_default c = unknown _ (λ k low high e. omega arith)
@@ -23,7 +23,7 @@ pub returns-in_default-2 : goal.returns-in_default-2
 returns-in_default-2 c =
     let o = c.args.o in
     let n8 : o ≢ 8 = λ e. c.in_default.in_default-own.rest.1 (inr e) in
-    let n9 : o ≢ 9 = λ e. c.in_default.in_default-own.rest.0.1 e in
+    let n9 : o ≢ 9 = λ e. omega arith in
     unknown o (λ k low high e. omega arith)
 
 pub returns-in-1 : goal.returns-in-1
@@ -32,11 +32,11 @@ returns-in-1 c = ap length_of (sym c.in-1.is)
 
 pub returns-in-1-2 : goal.returns-in-1-2
 unfolding length_of whether
-returns-in-1-2 c = either_of _ 1 (λ (k : ℕ). 6 ≡ length_of k) refl refl c.in_default.if-o-lt1-own.false c.in_default.if-o-lt3-own.true
+returns-in-1-2 c = either_of c.args.o 1 (λ (k : ℕ). 6 ≡ length_of k) refl refl (omega arith) (omega arith)
 
 pub returns-in-1-3 : goal.returns-in-1-3
 unfolding length_of whether
 returns-in-1-3 c =
     let o = c.args.o in
-    let n5 : o ≢ 5 = λ e. c.in_default.in_default-own.rest.1 (inl e) in
-    either_of o 6 (λ (k : ℕ). 6 ≡ length_of k) refl refl (omega arith) c.in_default.if-o-lt8-own.true
+    let n5 : o ≢ 5 = λ e. c.in-1.in_default-own.rest.1 (inl e) in
+    either_of o 6 (λ (k : ℕ). 6 ≡ length_of k) refl refl (omega arith) (omega arith)
