@@ -5,4 +5,4 @@ use Rattle.rules.specs.Runs.{Span}
 
 -- the place in memory where that part of the lent slots begins: a slot takes four bytes
 abbrev pub part_start : Bor (List ℕ) → Span → ℕ × ℕ
-part_start slots p = (slots.ptr.0, p.a * 4 + slots.ptr.1)
+part_start slots p = (slots.ref_ptr.0, p.a * 4 + slots.ref_ptr.1)

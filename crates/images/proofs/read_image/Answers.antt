@@ -1,0 +1,32 @@
+-- `images::read_image` meets its contract. Assumes nothing.
+use mathlib.Core.Bool.{true}
+use mathlib.Core.Path.{◌≡◌, sym, ◌∙◌}
+use native.Mathlib.Omega.{arith}
+use borrow.Author.Rules.{rules}
+use Rattle.images.proofs.Reading.{reads_slots, laid_size, reads_full, reads, reads_broken}
+use Rattle.rules.specs.Images.{laid_out}
+use Rattle.images.proofs.read_image.Goals as goal
+
+pub returns-then-cap-most_slots : goal.returns-then-cap-most_slots
+returns-then-cap-most_slots c = let a = c.args in reads_slots a.slots.now a.bytes.now
+    (omega arith)
+
+pub overflow_sub-n : goal.overflow_sub-n
+overflow_sub-n c = omega (arith, laid_size _ (let it : laid_out c.args.bytes.now ≡ true = sym c.laid_out.ensures ∙ c.if-laid_out.true in it))
+
+pub returns-then-cap-n : goal.returns-then-cap-n
+returns-then-cap-n c = let a = c.args in reads_full a.slots.now
+    a.bytes.now (omega arith) (let it : laid_out c.args.bytes.now ≡ true = sym c.laid_out.ensures ∙ c.if-laid_out.true in it) c.if-cap-n.true
+
+pub take_elements-requires : goal.take_elements-requires
+take_elements-requires c = omega (arith, laid_size _ (let it : laid_out c.args.bytes.now ≡ true = sym c.laid_out.ensures ∙ c.if-laid_out.true in it))
+
+pub returns-then-laid_out : goal.returns-then-laid_out
+returns-then-laid_out c = let a = c.args in reads a.slots.now a.bytes.now (omega arith)
+    (let it : laid_out c.args.bytes.now ≡ true = sym c.laid_out.ensures ∙ c.if-laid_out.true in it) _ _
+    c.if-cap-n.false c.take_elements.ensures
+    c.new_record.ensures
+
+pub returns : goal.returns
+returns c = let a = c.args in reads_broken a.slots.now
+    a.bytes.now (omega arith) (sym c.laid_out.ensures ∙ c.if-laid_out.false)
