@@ -1,0 +1,58 @@
+-- `comparisons::in_runs::common_length` meets its contract: the elements passed are in common. Assumes nothing.
+use mathlib.Core.List.{◌++◌}
+use mathlib.Core.Path.{◌∙◌, sym}
+use Prim.Native.Nat.{◌≤◌, ◌-◌, ◌<◌}
+use native.Mathlib.Omega.{arith}
+use borrow.Author.Rules.{rules}
+use lib.ListN.{length}
+use Rattle.comparisons.proofs.Common.{Passed, starts, second_ends, differs, agrees, first_ends}
+use Rattle.comparisons.proofs.InRuns.{past_runs, within_runs}
+use Rattle.comparisons.proofs.in_runs.common_length.Goals as goal
+
+pub overflow_add-len : goal.overflow_add-len
+overflow_add-len c = omega arith
+
+pub overflow_add-other_len : goal.overflow_add-other_len
+overflow_add-other_len c = omega arith
+
+pub loop-i-init : goal.loop-i-init
+loop-i-init c = (omega arith, omega arith, starts _ _)
+
+pub returns-then-i-other_len : goal.returns-then-i-other_len
+returns-then-i-other_len c =
+    second_ends _ _ _ c.loop-i.invariant.2 (past_runs
+    c.args.other-front.now
+    c.args.other-back.now _ c.if-i-other_len.true)
+
+pub element_in-v-requires : goal.element_in-v-requires
+element_in-v-requires c = c.loop-i-test.true
+
+pub element_in-w-requires : goal.element_in-w-requires
+element_in-w-requires c = c.if-i-other_len.false
+
+pub returns-then-v-w : goal.returns-then-v-w
+returns-then-v-w c =
+    differs _ _ _ c.loop-i.invariant.2 (let it : c.loop-i.i < length (c.args.front.now ++ c.args.back.now) = within_runs c.args.front.now c.args.back.now _ c.loop-i-test.true in it)
+    (let it : c.loop-i.i < length (c.args.other-front.now ++ c.args.other-back.now) = within_runs c.args.other-front.now c.args.other-back.now _ c.if-i-other_len.false in it)
+    (λ e. c.if-v-w.true (c.element_in-v.ensures ∙ e ∙ sym c.element_in-w.ensures))
+
+pub overflow_add-i : goal.overflow_add-i
+overflow_add-i c = omega arith
+
+pub loop-i-smaller : goal.loop-i-smaller
+loop-i-smaller c = omega arith
+
+pub loop-i-preserved : goal.loop-i-preserved
+loop-i-preserved c = (
+  omega arith,
+  omega arith,
+  agrees _ _ _ c.loop-i.invariant.2
+      (let it : c.loop-i.i < length (c.args.front.now ++ c.args.back.now) = within_runs c.args.front.now c.args.back.now _ c.loop-i-test.true in it) (let it : c.loop-i.i < length (c.args.other-front.now ++ c.args.other-back.now) = within_runs c.args.other-front.now c.args.other-back.now _ c.if-i-other_len.false in it)
+      (sym c.element_in-v.ensures ∙ c.if-v-w.false ∙ c.element_in-w.ensures),
+)
+
+pub returns : goal.returns
+returns c =
+    first_ends _ _ _ c.loop-i.invariant.2 (past_runs
+    c.args.front.now
+    c.args.back.now _ c.loop-i-test.false)

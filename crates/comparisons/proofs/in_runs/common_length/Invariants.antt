@@ -1,0 +1,16 @@
+-- `comparisons::in_runs::common_length` meets its contract: the elements passed are in common. Assumes nothing.
+use mathlib.Core.List.{◌++◌}
+use mathlib.Core.Path.{◌∙◌, sym}
+use Prim.Native.Nat.{◌≤◌, ◌-◌, ◌<◌}
+use native.Mathlib.Omega.{arith}
+use borrow.Author.Rules.{rules}
+use lib.ListN.{length}
+use Rattle.comparisons.proofs.Common.{Passed, starts, second_ends, differs, agrees, first_ends}
+use Rattle.comparisons.proofs.InRuns.{past_runs, within_runs}
+use Rattle.comparisons.proofs.in_runs.common_length.Given as goal
+
+abbrev pub invariant-loop-i : goal.invariant-loop-i
+invariant-loop-i l = (l.i ≤ l.len) × (l.i ≤ l.len') × Passed (l.front ++ l.back) (l.front' ++ l.back') l.i
+
+abbrev pub decreases-loop-i : goal.decreases-loop-i
+decreases-loop-i l = l.len - l.i

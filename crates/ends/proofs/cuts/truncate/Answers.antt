@@ -1,0 +1,18 @@
+-- `ends::truncate` meets its contract. Assumes nothing.
+use Rattle.std.proofs.Common.{◌≡◌, length, rules}
+use Rattle.ends.proofs.cuts.Laws.{all_kept, back_cut}
+use Rattle.queue.proofs.Checks.{passed_zero, told_first_lem}
+use Rattle.queue.specs.Answers.{rec_of}
+use Rattle.rules.specs.Refusals.{on_change}
+use Rattle.ends.proofs.cuts.truncate.Goals as goal
+
+pub returns-in-Refused : goal.returns-in-Refused
+returns-in-Refused c =
+    rw c.refused.ensures
+    (told_first_lem _ _ _ c.check_change.ensures _ _ c.in-Refused.is)
+
+pub returns-then-n-q : goal.returns-then-n-q
+returns-then-n-q c = all_kept _ _ (let it : on_change (length c.args.slots.now) (rec_of c.args.q) 0 ≡ 0 = passed_zero _ _ c.check_change.ensures c.in_default.is in it) _ c.if-n-q.true
+
+pub returns : goal.returns
+returns c = back_cut _ _ (let it : on_change (length c.args.slots.now) (rec_of c.args.q) 0 ≡ 0 = passed_zero _ _ c.check_change.ensures c.in_default.is in it) _ _ c.if-n-q.false c.stepped.ensures

@@ -1,0 +1,23 @@
+-- `ends::truncate_front` meets its contract. Assumes nothing.
+use Rattle.std.proofs.Common.{◌≡◌, length, arith, rules}
+use Rattle.ends.proofs.cuts.Laws.{front_kept, front_cut}
+use Rattle.queue.proofs.Checks.{passed_zero, Fine, fine_change, told_first_lem}
+use Rattle.queue.specs.Answers.{rec_of}
+use Rattle.rules.specs.Refusals.{on_change}
+use Rattle.ends.proofs.cuts.truncate_front.Goals as goal
+
+pub returns-in-Refused : goal.returns-in-Refused
+returns-in-Refused c =
+    rw c.refused.ensures
+    (told_first_lem _ _ _ c.check_change.ensures _ _
+    c.in-Refused.is)
+
+pub returns-then-n-len : goal.returns-then-n-len
+returns-then-n-len c = front_kept _ _ (let it : on_change (length c.args.slots.now) (rec_of c.args.q) 0 ≡ 0 = passed_zero _ _ c.check_change.ensures c.in_default.is in it) _ c.if-n-len.true
+
+pub wrap_add-head-requires : goal.wrap_add-head-requires
+wrap_add-head-requires c = let g = ((let it : Fine c.args.slots.now (rec_of c.args.q) = fine_change _ _ (let it : on_change (length c.args.slots.now) (rec_of c.args.q) 0 ≡ 0 = passed_zero _ _ c.check_change.ensures c.in_default.is in it) in it)).good in omega arith
+
+pub returns : goal.returns
+returns c = front_cut _ _ (let it : on_change (length c.args.slots.now) (rec_of c.args.q) 0 ≡ 0 = passed_zero _ _ c.check_change.ensures c.in_default.is in it) _ _ _ c.if-n-len.false
+    c.wrap_add-head.ensures c.stepped.ensures

@@ -1,0 +1,28 @@
+-- `ends::looks::get` meets its contract. Assumes nothing.
+use Rattle.std.proofs.Common.{◌≡◌, ◌<◌, length, refl, ◌∙◌, arith, rules}
+use Rattle.ends.proofs.looks.Laws.{unseen_past, seen_at}
+use Rattle.queue.proofs.Checks.{passed_zero, Fine, fine}
+use Rattle.queue.proofs.Looks.{look_first}
+use Rattle.queue.specs.Answers.{rec_of}
+use Rattle.rules.proofs.Places.{place-low}
+use Rattle.rules.specs.Refusals.{on_queue}
+use Rattle.ends.proofs.looks.get.Goals as goal
+
+pub returns-in-Refused : goal.returns-in-Refused
+returns-in-Refused c = look_first _ _ _ _ c.check.ensures _ c.in-Refused.is
+
+pub wrap_add-at-requires : goal.wrap_add-at-requires
+wrap_add-at-requires c = let g = ((let it : Fine c.args.slots.now (rec_of c.args.q) = fine _ _ (let it : on_queue (length c.args.slots.now) (rec_of c.args.q) 0 ≡ 0 = passed_zero _ _ c.check.ensures c.in_default.is in it) in it)).good in omega arith
+
+pub offset_bounds-slots-p : goal.offset_bounds-slots-p
+offset_bounds-slots-p c = let k : c.as_index-p.result < length c.args.slots.now = let a = c.args in let g = ((let it : Fine c.args.slots.now (rec_of c.args.q) = fine _ _ (let it : on_queue (length c.args.slots.now) (rec_of c.args.q) 0 ≡ 0 = passed_zero _ _ c.check.ensures c.in_default.is in it) in it)).good in omega ( arith, c.as_index-p.ensures, c.wrap_add-at.ensures, place-low (length a.slots.now) a.q.head.0 (omega arith) a.i (omega arith), ) in omega arith
+
+pub bounds-slots-p : goal.bounds-slots-p
+bounds-slots-p c = (let it : c.as_index-p.result < length c.args.slots.now = let a = c.args in let g = ((let it : Fine c.args.slots.now (rec_of c.args.q) = fine _ _ (let it : on_queue (length c.args.slots.now) (rec_of c.args.q) 0 ≡ 0 = passed_zero _ _ c.check.ensures c.in_default.is in it) in it)).good in omega ( arith, c.as_index-p.ensures, c.wrap_add-at.ensures, place-low (length a.slots.now) a.q.head.0 (omega arith) a.i (omega arith), ) in it)
+
+pub returns-then-i-q : goal.returns-then-i-q
+returns-then-i-q c = seen_at _ _ (let it : on_queue (length c.args.slots.now) (rec_of c.args.q) 0 ≡ 0 = passed_zero _ _ c.check.ensures c.in_default.is in it) _ _ _
+    c.if-i-q.true (c.as_index-p.ensures ∙ c.wrap_add-at.ensures) refl
+
+pub returns : goal.returns
+returns c = unseen_past _ _ (let it : on_queue (length c.args.slots.now) (rec_of c.args.q) 0 ≡ 0 = passed_zero _ _ c.check.ensures c.in_default.is in it) _ c.if-i-q.false

@@ -1,0 +1,31 @@
+-- `ends::pop_back` meets its contract. Assumes nothing.
+use Rattle.std.proofs.Common.{◌≡◌, ◌-◌, ◌<◌, length, refl, ◌∙◌, arith, rules}
+use Rattle.ends.proofs.pops.Laws.{back_none, back_popped}
+use Rattle.queue.proofs.Checks.{passed_zero, Fine, fine_change, told_first_lem}
+use Rattle.queue.specs.Answers.{rec_of}
+use Rattle.rules.proofs.Places.{place-low}
+use Rattle.rules.specs.Refusals.{on_change}
+use Rattle.ends.proofs.pops.pop_back.Goals as goal
+
+pub returns-in-Refused : goal.returns-in-Refused
+returns-in-Refused c =
+    rw c.refused.ensures
+    (told_first_lem _ _ _ c.check_change.ensures _ _
+    c.in-Refused.is)
+
+pub wrap_add-last-requires : goal.wrap_add-last-requires
+wrap_add-last-requires c = let g = ((let it : Fine c.args.slots.now (rec_of c.args.q) = fine_change _ _ (let it : on_change (length c.args.slots.now) (rec_of c.args.q) 0 ≡ 0 = passed_zero _ _ c.check_change.ensures c.in_default.is in it) in it)).good in omega arith
+
+pub offset_bounds-slots-l : goal.offset_bounds-slots-l
+offset_bounds-slots-l c = let k : c.as_index-l.result < length c.args.slots.now = let a = c.args in let g = ((let it : Fine c.args.slots.now (rec_of c.args.q) = fine_change _ _ (let it : on_change (length c.args.slots.now) (rec_of c.args.q) 0 ≡ 0 = passed_zero _ _ c.check_change.ensures c.in_default.is in it) in it)).good in omega ( arith, c.as_index-l.ensures, c.wrap_add-last.ensures, place-low (length a.slots.now) a.q.head.0 (omega arith) (a.q.len - 1) (omega arith), ) in omega arith
+
+pub bounds-slots-l : goal.bounds-slots-l
+bounds-slots-l c = (let it : c.as_index-l.result < length c.args.slots.now = let a = c.args in let g = ((let it : Fine c.args.slots.now (rec_of c.args.q) = fine_change _ _ (let it : on_change (length c.args.slots.now) (rec_of c.args.q) 0 ≡ 0 = passed_zero _ _ c.check_change.ensures c.in_default.is in it) in it)).good in omega ( arith, c.as_index-l.ensures, c.wrap_add-last.ensures, place-low (length a.slots.now) a.q.head.0 (omega arith) (a.q.len - 1) (omega arith), ) in it)
+
+pub returns-then-len-gt0 : goal.returns-then-len-gt0
+returns-then-len-gt0 c = back_popped _ _ (let it : on_change (length c.args.slots.now) (rec_of c.args.q) 0 ≡ 0 = passed_zero _ _ c.check_change.ensures c.in_default.is in it) _ _ _
+    (λ none. omega (arith, c.if-len-gt0.true, none))
+    (c.as_index-l.ensures ∙ c.wrap_add-last.ensures) refl c.stepped.ensures
+
+pub returns : goal.returns
+returns c = back_none _ _ (let it : on_change (length c.args.slots.now) (rec_of c.args.q) 0 ≡ 0 = passed_zero _ _ c.check_change.ensures c.in_default.is in it) (omega arith)

@@ -1,0 +1,36 @@
+-- `ends::push_front` meets its contract. Assumes nothing.
+use Rattle.std.proofs.Common.{◌≡◌, ◌-◌, ◌<◌, length, arith, rules}
+use Rattle.ends.proofs.pushes.Laws.{front_full, front_pushed}
+use Rattle.queue.proofs.Checks.{passed_zero, Fine, fine_change, told_first_lem}
+use Rattle.queue.specs.Answers.{rec_of}
+use Rattle.rules.proofs.Places.{place-low}
+use Rattle.rules.specs.Refusals.{on_change}
+use Rattle.ends.proofs.pushes.push_front.Goals as goal
+
+pub returns-in-Refused : goal.returns-in-Refused
+returns-in-Refused c =
+    rw c.refused.ensures
+    (told_first_lem _ _ _ c.check_change.ensures _ _
+    c.in-Refused.is)
+
+pub wrap_sub-first-requires : goal.wrap_sub-first-requires
+wrap_sub-first-requires c = let g = ((let it : Fine c.args.slots.now (rec_of c.args.q) = fine_change _ _ (let it : on_change (length c.args.slots.now) (rec_of c.args.q) 0 ≡ 0 = passed_zero _ _ c.check_change.ensures c.in_default.is in it) in it)).good in omega arith
+
+pub offset_bounds-slots-f : goal.offset_bounds-slots-f
+offset_bounds-slots-f c = let k : c.as_index-f.result < length c.args.slots.now = let a = c.args in let g = ((let it : Fine c.args.slots.now (rec_of c.args.q) = fine_change _ _ (let it : on_change (length c.args.slots.now) (rec_of c.args.q) 0 ≡ 0 = passed_zero _ _ c.check_change.ensures c.in_default.is in it) in it)).good in omega ( arith, c.as_index-f.ensures, c.wrap_sub-first.ensures, place-low (length a.slots.now) a.q.head.0 (omega arith) (length a.slots.now - 1) (omega arith), ) in omega arith
+
+pub bounds-slots-f : goal.bounds-slots-f
+bounds-slots-f c = (let it : c.as_index-f.result < length c.args.slots.now = let a = c.args in let g = ((let it : Fine c.args.slots.now (rec_of c.args.q) = fine_change _ _ (let it : on_change (length c.args.slots.now) (rec_of c.args.q) 0 ≡ 0 = passed_zero _ _ c.check_change.ensures c.in_default.is in it) in it)).good in omega ( arith, c.as_index-f.ensures, c.wrap_sub-first.ensures, place-low (length a.slots.now) a.q.head.0 (omega arith) (length a.slots.now - 1) (omega arith), ) in it)
+
+pub overflow_add-q : goal.overflow_add-q
+overflow_add-q c = let g = ((let it : Fine c.args.slots.now (rec_of c.args.q) = fine_change _ _ (let it : on_change (length c.args.slots.now) (rec_of c.args.q) 0 ≡ 0 = passed_zero _ _ c.check_change.ensures c.in_default.is in it) in it)).good in omega arith
+
+pub returns-then-q-cap : goal.returns-then-q-cap
+returns-then-q-cap c = front_pushed _ _ (let it : on_change (length c.args.slots.now) (rec_of c.args.q) 0 ≡ 0 = passed_zero _ _ c.check_change.ensures c.in_default.is in it) _ _ _ _
+    (λ full. omega (arith, c.if-q-cap.true, full)) c.as_index-f.ensures
+    c.wrap_sub-first.ensures c.stepped.ensures
+
+pub returns : goal.returns
+returns c =
+    rw c.refused-2.ensures
+    (let g = ((let it : Fine c.args.slots.now (rec_of c.args.q) = fine_change _ _ (let it : on_change (length c.args.slots.now) (rec_of c.args.q) 0 ≡ 0 = passed_zero _ _ c.check_change.ensures c.in_default.is in it) in it)).good in front_full _ _ (let it : on_change (length c.args.slots.now) (rec_of c.args.q) 0 ≡ 0 = passed_zero _ _ c.check_change.ensures c.in_default.is in it) _ (omega arith))

@@ -1,0 +1,24 @@
+-- `retains::sift` meets its contract. The loop's invariant: those
+-- kept so far stand in the front of `held`. Assumes nothing.
+use mathlib.Core.Logic.{⊎_elim}
+use Prim.Native.Nat.{◌-◌}
+use borrow.Author.Rules.{rules}
+use lib.ListN.{length}
+use Rattle.conditions.specs.Tests.{test_of}
+use Rattle.retains.proofs.Stages.{Sifted, sifted_none, sifted_kept, sifted_out, sifted_count, sifted_stored}
+use Rattle.rules.specs.Conditions.{meets}
+use Rattle.retains.proofs.sift.Goals as goal
+
+pub loop-i-init : goal.loop-i-init
+loop-i-init c = sifted_none _ _ _
+
+pub loop-i-preserved : goal.loop-i-preserved
+loop-i-preserved c =
+    let s = c.loop-i.invariant in
+    let fits = c.requires in
+    let lt = c.loop-i-test.true in
+    ⊎_elim (λ w. sifted_kept _ _ _ _ _ _ s fits lt _ c.meets.ensures _ w.0.taken w.1)
+    (λ w. sifted_out _ _ _ _ _ _ s fits lt _ c.meets.ensures _ w.0.left w.1) c.if-meets.branch
+
+pub returns : goal.returns
+returns c = record { value = sifted_count _ _ _ _ _ _ c.loop-i.invariant c.loop-i-test.false; held_after = sifted_stored _ _ _ _ _ _ c.loop-i.invariant c.loop-i-test.false }

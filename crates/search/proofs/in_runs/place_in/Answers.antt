@@ -1,0 +1,53 @@
+-- `search::in_runs::place_in` meets its contract: each step leaves the same end. Assumes nothing.
+use mathlib.Core.Path.{sym, ◌∙◌}
+use Prim.Native.Nat.{◌≤◌, ◌-◌}
+use native.Mathlib.Omega.{arith}
+use borrow.Author.Rules.{rules}
+use lib.ListN.{length}
+use Rattle.conditions.specs.Tests.{test_of}
+use Rattle.rules.specs.Conditions.{meets}
+use Rattle.search.proofs.Steps.{Halves, starts, goes_up, goes_down, ended}
+use Rattle.search.proofs.in_runs.place_in.Goals as goal
+
+pub loop-high-init : goal.loop-high-init
+loop-high-init c = (omega arith, omega arith, starts _ _)
+
+pub overflow_sub-middle : goal.overflow_sub-middle
+overflow_sub-middle c = omega arith
+
+pub overflow_add-middle : goal.overflow_add-middle
+overflow_add-middle c = omega arith
+
+pub offset_bounds-run-middle : goal.offset_bounds-run-middle
+offset_bounds-run-middle c = omega arith
+
+pub bounds-run-middle : goal.bounds-run-middle
+bounds-run-middle c = omega arith
+
+pub overflow_add-low : goal.overflow_add-low
+overflow_add-low c = omega arith
+
+pub loop-high-smaller-then-meets : goal.loop-high-smaller-then-meets
+loop-high-smaller-then-meets c = omega arith
+
+pub loop-high-preserved-then-meets : goal.loop-high-preserved-then-meets
+loop-high-preserved-then-meets c = (
+  omega arith,
+  omega arith,
+  goes_up _ _ _ _ c.if-low-high.false (sym c.meets.ensures ∙ c.if-meets.true)
+      c.loop-high.invariant.2,
+)
+
+pub loop-high-smaller : goal.loop-high-smaller
+loop-high-smaller c = omega arith
+
+pub loop-high-preserved : goal.loop-high-preserved
+loop-high-preserved c = (
+  omega arith,
+  omega arith,
+  goes_down _ _ _ _ c.if-low-high.false (sym c.meets.ensures ∙ c.if-meets.false)
+      c.loop-high.invariant.2,
+)
+
+pub returns : goal.returns
+returns c = (omega arith, ended _ _ _ _ c.if-low-high.true c.loop-high.invariant.2)

@@ -1,0 +1,26 @@
+-- `walks::walk_next` meets its contract. Assumes nothing.
+use mathlib.Core.Path.{◌≡◌}
+use native.Mathlib.Omega.{arith}
+use borrow.Author.Rules.{rules}
+use lib.ListN.{length}
+use Rattle.queue.proofs.Checks.{passed_zero, failed_number}
+use Rattle.rules.specs.Walks.{on_walk}
+use Rattle.walks.proofs.Steps.{Walkable, walkable, step-refused, front, nothing_left, one_given}
+use Rattle.queue.specs.Looks.{walk_of}
+use Rattle.walks.proofs.walk_next.Goals as goal
+
+pub returns-in-Refused : goal.returns-in-Refused
+returns-in-Refused c = step-refused front _ _ _
+    (failed_number _ _ _ c.check_walk.ensures c.in-Refused.is)
+
+pub returns-then-low-high : goal.returns-then-low-high
+returns-then-low-high c = nothing_left front _ _ (let it : on_walk (length c.args.slots.now) (walk_of c.args.w) ≡ 0 = passed_zero _ _ c.check_walk.ensures c.in_default.is in it) c.if-low-high.true
+
+pub element-requires : goal.element-requires
+element-requires c = let k : Walkable c.args.slots.now (walk_of c.args.w) = walkable _ _ (let it : on_walk (length c.args.slots.now) (walk_of c.args.w) ≡ 0 = passed_zero _ _ c.check_walk.ensures c.in_default.is in it) in (k.first, omega arith)
+
+pub overflow_add-result : goal.overflow_add-result
+overflow_add-result c = let k : Walkable c.args.slots.now (walk_of c.args.w) = walkable _ _ (let it : on_walk (length c.args.slots.now) (walk_of c.args.w) ≡ 0 = passed_zero _ _ c.check_walk.ensures c.in_default.is in it) in omega arith
+
+pub returns : goal.returns
+returns c = one_given front _ _ (let it : on_walk (length c.args.slots.now) (walk_of c.args.w) ≡ 0 = passed_zero _ _ c.check_walk.ensures c.in_default.is in it) _ c.if-low-high.false c.element.ensures
