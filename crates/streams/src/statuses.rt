@@ -1,5 +1,5 @@
-// The status that a program leaves. A Rattle program has none of its own: a script that wants one opens descriptor 3
-// and passes the argument `status=3`, and the program writes its digit there. Without it nothing is written.
+// The status that a program leaves: a script that wants it opens descriptor 3 and passes the argument `status=3`, and
+// the program writes its digit there. Without it nothing is written.
 use crate::moving::write;
 use std::fs::OpenOptions;
 use std::rt::Env;
