@@ -17,6 +17,6 @@ returns c =
     passed_zero _ _ c.check_both.ensures
     c.in_default.is in
     ap sees c.same_runs.ensures
-    ∙ both_seen a.slots.now (rec_of a.q) a.other-slots.now (rec_of a.other) same passed _ _ _ _
+    ∙ both_seen a.slots.now (rec_of a.q) a.other_slots.now (rec_of a.other) same passed _ _ _ _
     c.front_run-front.ensures.result_value c.back_run-back.ensures.result_value
     c.front_run-other_front.ensures.result_value c.back_run-other_back.ensures.result_value

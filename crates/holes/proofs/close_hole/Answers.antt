@@ -9,8 +9,9 @@ returns-then-hole-eq0 c = no_hole _ _ _ _ _ _ c.if-hole-eq0.true
 
 pub wrap_copy-requires : goal.wrap_copy-requires
 wrap_copy-requires c =
-    side_can_move c.args.slots.now _ _ _ _ _ _ c.shorter_side-side.ensures
-    (omega arith) c.requires.1 c.requires.2
+    let can = side_can_move c.args.slots.now _ _ _ _ _ _ c.shorter_side-side.ensures
+        (omega arith) c.requires.1 c.requires.2 in
+    record { src_in_bounds = can.0; one_overlap = can.1 }
 
 pub returns : goal.returns
 returns c =

@@ -27,4 +27,4 @@ returns c =
 
 pub overflow_add-result : goal.overflow_add-result
 overflow_add-result c = let a = c.args in omega
-    (arith, returns-3 c, leading_upto (meets (test_of a.test)) a.slots.now a.head.0 a.len)
+    (arith, returns c, leading_upto (meets (test_of a.test)) a.slots.now a.head.0 a.len)

@@ -36,8 +36,8 @@ overflow_add-moved c = let k : c.move_part-kept.result ≤ c.least-n.result = th
 pub loop-left-preserved : goal.loop-left-preserved
 loop-left-preserved c =
     let s = c.loop-left.invariant in
-    let m = c.move_part-kept.ensures.value in
-    (omega arith, moving_on _ _ _ _ _ _ _ _ _ s.1 c.loop-left-test.true _ _ _ (omega arith) c.as_index-start.ensures m.0 _ _ _ m.1 c.wrap_add-into.ensures c.wrap_add-from-in-loop-left.ensures)
+    let m = c.move_part-kept.ensures in
+    (omega arith, moving_on _ _ _ _ _ _ _ _ _ s.1 c.loop-left-test.true _ _ _ (omega arith) c.as_index-start.ensures m.value _ _ _ m.slots_after c.wrap_add-into.ensures c.wrap_add-from-in-loop-left.ensures)
 
 pub shape_of-slots : goal.shape_of-slots
 shape_of-slots c = c.loop-left.invariant.1.long

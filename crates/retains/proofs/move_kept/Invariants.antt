@@ -14,8 +14,8 @@ use Rattle.retains.proofs.move_kept.Given as goal
 
 abbrev pub invariant-loop-left : goal.invariant-loop-left
 invariant-loop-left l =
-    let l = those (meets (test_of l.test)) (list_of l.initial.slots (place (length l.initial.slots) l.initial.into.0 1) l.len) in
-    (length l.held ≡ length l.initial.held) × Moving (meets (test_of l.test)) (length l.initial.slots) (length l) (lay l.initial.slots l.initial.into.0 l) l.slots l.into.0 l.from.0 l.left l.moved
+    let kept = those (meets (test_of l.test)) (list_of l.initial.slots (place (length l.initial.slots) l.initial.into.0 1) l.len) in
+    (length l.held ≡ length l.initial.held) × Moving (meets (test_of l.test)) (length l.initial.slots) (length kept) (lay l.initial.slots l.initial.into.0 kept) l.slots l.into.0 l.from.0 l.left l.moved
 
 abbrev pub decreases-loop-left : goal.decreases-loop-left
 decreases-loop-left l = l.left

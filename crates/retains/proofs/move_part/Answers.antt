@@ -23,6 +23,6 @@ copy_slice-requires c = let k = part_few _
 pub returns : goal.returns
 returns c =
     let a = c.args in
-    let s = c.sift-kept.ensures.value in
-    let fits = c.requires.0 in record { value = part_count _ a.slots.now a.from a.n fits _ s.0; slots_after = part-slots _ a.slots.now a.from a.n fits _ s.0 _ _ _ s.1
+    let s = c.sift-kept.ensures in
+    let fits = c.requires.0 in record { value = part_count _ a.slots.now a.from a.n fits _ s.value; slots_after = part-slots _ a.slots.now a.from a.n fits _ s.value _ _ _ s.held_after
           c.copy_slice.ensures }

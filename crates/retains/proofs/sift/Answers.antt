@@ -7,6 +7,7 @@ use lib.ListN.{length}
 use Rattle.conditions.specs.Tests.{test_of}
 use Rattle.retains.proofs.Stages.{Sifted, sifted_none, sifted_kept, sifted_out, sifted_count, sifted_stored}
 use Rattle.rules.specs.Conditions.{meets}
+use Rattle.retains.proofs.sift.Goals.{then-meets, else-meets}
 use Rattle.retains.proofs.sift.Goals as goal
 
 pub loop-i-init : goal.loop-i-init
@@ -17,8 +18,10 @@ loop-i-preserved c =
     let s = c.loop-i.invariant in
     let fits = c.requires in
     let lt = c.loop-i-test.true in
-    ⊎_elim (λ w. sifted_kept _ _ _ _ _ _ s fits lt _ c.meets.ensures _ w.0.taken w.1)
-    (λ w. sifted_out _ _ _ _ _ _ s fits lt _ c.meets.ensures _ w.0.left w.1) c.if-meets.branch
+    elim c.if-meets.branch [
+      then-meets w ↦ sifted_kept _ _ _ _ _ _ s fits lt _ c.meets.ensures _ w.if-meets.true w.kept-is
+    | else-meets w ↦ sifted_out _ _ _ _ _ _ s fits lt _ c.meets.ensures _ w.if-meets.false w.kept-is
+    ]
 
 pub returns : goal.returns
 returns c = record { value = sifted_count _ _ _ _ _ _ c.loop-i.invariant c.loop-i-test.false; held_after = sifted_stored _ _ _ _ _ _ c.loop-i.invariant c.loop-i-test.false }

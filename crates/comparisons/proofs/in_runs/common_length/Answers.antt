@@ -21,8 +21,8 @@ loop-i-init c = (omega arith, omega arith, starts _ _)
 pub returns-then-i-other_len : goal.returns-then-i-other_len
 returns-then-i-other_len c =
     second_ends _ _ _ c.loop-i.invariant.2 (past_runs
-    c.args.other-front.now
-    c.args.other-back.now _ c.if-i-other_len.true)
+    c.args.other_front.now
+    c.args.other_back.now _ c.if-i-other_len.true)
 
 pub element_in-v-requires : goal.element_in-v-requires
 element_in-v-requires c = c.loop-i-test.true
@@ -33,7 +33,7 @@ element_in-w-requires c = c.if-i-other_len.false
 pub returns-then-v-w : goal.returns-then-v-w
 returns-then-v-w c =
     differs _ _ _ c.loop-i.invariant.2 (let it : c.loop-i.i < length (c.args.front.now ++ c.args.back.now) = within_runs c.args.front.now c.args.back.now _ c.loop-i-test.true in it)
-    (let it : c.loop-i.i < length (c.args.other-front.now ++ c.args.other-back.now) = within_runs c.args.other-front.now c.args.other-back.now _ c.if-i-other_len.false in it)
+    (let it : c.loop-i.i < length (c.args.other_front.now ++ c.args.other_back.now) = within_runs c.args.other_front.now c.args.other_back.now _ c.if-i-other_len.false in it)
     (λ e. c.if-v-w.true (c.element_in-v.ensures ∙ e ∙ sym c.element_in-w.ensures))
 
 pub overflow_add-i : goal.overflow_add-i
@@ -47,7 +47,7 @@ loop-i-preserved c = (
   omega arith,
   omega arith,
   agrees _ _ _ c.loop-i.invariant.2
-      (let it : c.loop-i.i < length (c.args.front.now ++ c.args.back.now) = within_runs c.args.front.now c.args.back.now _ c.loop-i-test.true in it) (let it : c.loop-i.i < length (c.args.other-front.now ++ c.args.other-back.now) = within_runs c.args.other-front.now c.args.other-back.now _ c.if-i-other_len.false in it)
+      (let it : c.loop-i.i < length (c.args.front.now ++ c.args.back.now) = within_runs c.args.front.now c.args.back.now _ c.loop-i-test.true in it) (let it : c.loop-i.i < length (c.args.other_front.now ++ c.args.other_back.now) = within_runs c.args.other_front.now c.args.other_back.now _ c.if-i-other_len.false in it)
       (sym c.element_in-v.ensures ∙ c.if-v-w.false ∙ c.element_in-w.ensures),
 )
 

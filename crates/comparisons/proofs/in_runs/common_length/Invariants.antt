@@ -10,7 +10,7 @@ use Rattle.comparisons.proofs.InRuns.{past_runs, within_runs}
 use Rattle.comparisons.proofs.in_runs.common_length.Given as goal
 
 abbrev pub invariant-loop-i : goal.invariant-loop-i
-invariant-loop-i l = (l.i ≤ l.len) × (l.i ≤ l.len') × Passed (l.front ++ l.back) (l.front' ++ l.back') l.i
+invariant-loop-i l = (l.i ≤ l.len) × (l.i ≤ l.other_len) × Passed (l.front ++ l.back) (l.other_front ++ l.other_back) l.i
 
 abbrev pub decreases-loop-i : goal.decreases-loop-i
 decreases-loop-i l = l.len - l.i

@@ -10,6 +10,7 @@ use borrow.Author.Rules.{rules}
 use lib.ListN.{length, get_or}
 use Rattle.comparisons.proofs.Has.{has_none, no_hit, hit_front, hit_back}
 use Rattle.rules.specs.Looks.{has}
+use Rattle.comparisons.proofs.in_runs.stands_in.Goals.{then-run-eq0, else-run-eq0}
 use Rattle.comparisons.proofs.in_runs.stands_in.Goals as goal
 
 pub walk-init : goal.walk-init
@@ -17,12 +18,14 @@ walk-init c = (omega arith, λ h. absurd (omega arith), λ h. absurd (omega arit
 
 pub loop-i-init : goal.loop-i-init
 loop-i-init c =
-    ⊎_elim
-    (λ w. let e : c.if-run-eq0.s.now ≡ c.args.front.now = ap (λ x. x.now) w.1 in
-    (omega arith, rw e c.before.before.before.well-formed.0.1, below_none _, inl (w.0.taken, e)))
-    (λ w. let e : c.if-run-eq0.s.now ≡ c.args.back.now = ap (λ x. x.now) w.1 in
-    (omega arith, rw e c.before.before.before.well-formed.1.0.1, below_none _, inr (omega arith, e)))
-    c.if-run-eq0.branch
+    elim c.if-run-eq0.branch [
+      then-run-eq0 w ↦
+        let e : c.if-run-eq0.s.now ≡ c.args.front.now = ap (λ x. x.now) w.s-is in
+        (omega arith, rw e c.well_formed.0.1, below_none _, inl (w.if-run-eq0.true, e))
+    | else-run-eq0 w ↦
+        let e : c.if-run-eq0.s.now ≡ c.args.back.now = ap (λ x. x.now) w.s-is in
+        (omega arith, rw e c.well_formed.1.0.1, below_none _, inr (omega arith, e))
+    ]
 
 pub loop-i-preserved : goal.loop-i-preserved
 loop-i-preserved c =

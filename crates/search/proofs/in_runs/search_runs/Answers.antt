@@ -6,20 +6,7 @@ use Rattle.rules.specs.Looks.{sees}
 use Rattle.rules.specs.Search.{spot_of, spot_in}
 use Rattle.search.proofs.Searches.{spot-handed, spot_tie, counted_on, spot_found, spot_unlike, spot_past}
 use borrow.Author.Rules.{rules}
-use Rattle.search.proofs.in_runs.search_runs.Goals.{After-counted_from}
 use Rattle.search.proofs.in_runs.search_runs.Goals as goal
-
--- the halving goes on in the run that is handed
-goes_on : (c : After-counted_from)
-    → spot_in c.args.x
-    c.handed_run-run.result.now c.counted_from.result
-    ≡ spot_of c.args.x
-    c.args.front.now
-    c.args.back.now
-unfolding test_of
-goes_on c =
-    spot-handed _ _ _ _ _ c.handed_run-run.ensures c.counted_from.ensures
-    (sym c.begins_with.ensures ∙ c.if-begins_with.false)
 
 pub returns-then-begins_with : goal.returns-then-begins_with
 unfolding test_of
@@ -34,14 +21,17 @@ pub returns-then-run-low : goal.returns-then-run-low
 unfolding test_of
 returns-then-run-low c =
     ap sees (spot_found _ _ _ _ c.place_in-low.ensures.1
-    c.if-low-run.true c.if-run-low.true ∙ goes_on c.before.before.before)
+    c.if-low-run.true c.if-run-low.true ∙ (spot-handed _ _ _ _ _ c.handed_run-run.ensures c.counted_from.ensures
+    (sym c.begins_with.ensures ∙ c.if-begins_with.false)))
 
 pub returns-else-run-low : goal.returns-else-run-low
 unfolding test_of
 returns-else-run-low c =
     ap sees (spot_unlike _ _ _ _ c.place_in-low.ensures.1
-    c.if-low-run.true c.if-run-low.false ∙ goes_on c.before.before.before)
+    c.if-low-run.true c.if-run-low.false ∙ (spot-handed _ _ _ _ _ c.handed_run-run.ensures c.counted_from.ensures
+    (sym c.begins_with.ensures ∙ c.if-begins_with.false)))
 
 pub returns-else-low-run : goal.returns-else-low-run
 unfolding test_of
-returns-else-low-run c = ap sees (spot_past _ _ _ _ c.place_in-low.ensures.1 c.if-low-run.false ∙ goes_on c.before)
+returns-else-low-run c = ap sees (spot_past _ _ _ _ c.place_in-low.ensures.1 c.if-low-run.false ∙ (spot-handed _ _ _ _ _ c.handed_run-run.ensures c.counted_from.ensures
+    (sym c.begins_with.ensures ∙ c.if-begins_with.false)))
