@@ -1,0 +1,34 @@
+-- `joins::queues::check_append` meets its contract. Assumes nothing.
+use mathlib.Core.Path.{◌≡◌}
+use native.Mathlib.Omega.{arith}
+use borrow.Author.Rules.{rules}
+use Rattle.extends.proofs.Asks.{queue-refuses, queue-passes, room-refuses, room-passes}
+use Rattle.queue.proofs.Checks.{passed_zero}
+use Rattle.queue.specs.Answers.{rec_of}
+use Rattle.rules.proofs.Refusals.{change_ok}
+use Rattle.rules.specs.Pairs.{on_appending}
+use Rattle.rules.specs.Refusals.{on_change}
+use Rattle.joins.proofs.queues.check_append.Goals as goal
+
+pub returns-in-Refused : goal.returns-in-Refused
+unfolding on_appending
+returns-in-Refused c = queue-refuses _ _ _ _ _ c.check_change.ensures c.in-Refused.is
+
+pub returns-in-Refused-check_change : goal.returns-in-Refused-check_change
+unfolding on_appending
+returns-in-Refused-check_change c = queue-passes _ _ _ _ (let it : on_change c.args.cap (rec_of c.args.q) 0 ≡ 0 = passed_zero _ _ c.check_change.ensures c.in_default.is in it)
+    (queue-refuses _ _ _ _ _ c.check_change-2.ensures c.in-Refused-check_change.is)
+
+pub overflow_sub-cap : goal.overflow_sub-cap
+overflow_sub-cap c = let g = (change_ok _ _ 0 (let it : on_change c.args.cap (rec_of c.args.q) 0 ≡ 0 = passed_zero _ _ c.check_change.ensures c.in_default.is in it)).0 in omega arith
+
+pub returns-then-other-cap : goal.returns-then-other-cap
+unfolding on_appending
+returns-then-other-cap c = queue-passes _ _ _ _ (let it : on_change c.args.cap (rec_of c.args.q) 0 ≡ 0 = passed_zero _ _ c.check_change.ensures c.in_default.is in it)
+    (queue-passes _ _ _ _ (let it : on_change c.args.other_cap (rec_of c.args.other) 0 ≡ 0 = passed_zero _ _ c.check_change-2.ensures c.in_default-check_change.is in it) (room-refuses _ _ (omega arith)))
+
+pub returns : goal.returns
+unfolding on_appending
+returns c = let g = (change_ok _ _ 0 (let it : on_change c.args.cap (rec_of c.args.q) 0 ≡ 0 = passed_zero _ _ c.check_change.ensures c.in_default.is in it)).0 in queue-passes _ _
+    _ _ (let it : on_change c.args.cap (rec_of c.args.q) 0 ≡ 0 = passed_zero _ _ c.check_change.ensures c.in_default.is in it)
+    (queue-passes _ _ _ _ (let it : on_change c.args.other_cap (rec_of c.args.other) 0 ≡ 0 = passed_zero _ _ c.check_change-2.ensures c.in_default-check_change.is in it) (room-passes _ _ (omega arith)))

@@ -1,0 +1,18 @@
+-- `journals::performing::drain_closed` meets its contract. Assumes nothing.
+use mathlib.Core.Path.{ap}
+use Rattle.journals.proofs.Performs.{stays-shut, opens_closes}
+use Rattle.queue.specs.Drains.{state_of}
+use borrow.Author.Rules.{rules}
+use Rattle.journals.proofs.performing.drain_closed.Goals as goal
+
+pub returns-in-Shut : goal.returns-in-Shut
+returns-in-Shut c =
+    stays-shut _ _ _ _ c.of_opened-opened.ensures c.drain.ensures _
+    (ap state_of c.in-Shut.is)
+
+pub returns-in-Draining : goal.returns-in-Draining
+returns-in-Draining c =
+    opens_closes _ _ _ _ c.of_opened-opened.ensures
+    c.drain.ensures _
+    (ap state_of c.in-Draining.is) _ _ _ c.of_closed.ensures
+    c.drain_close.ensures
