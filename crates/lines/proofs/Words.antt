@@ -1,5 +1,6 @@
 -- Words and lines: bytes put one behind the other are the line. Assumes nothing.
 use mathlib.Core.List.{List, [], ◌∷◌, ◌++◌, append_assoc, append-nil}
+use mathlib.Core.Logic.{◌⊎◌, inl, inr}
 use mathlib.Core.Option.{Option}
 use mathlib.Core.Path.{◌≡◌, refl, sym, ◌∙◌, ap}
 use Prim.Native.Nat.{ℕ}
@@ -12,9 +13,6 @@ use Rattle.rules.specs.Records.{Rec}
 use Rattle.rules.specs.Replays.{space, newline, decimal, spaced, line_of, number_or_none, handed_word, answer_line, broken_line, rec_or}
 use Rattle.journals.specs.declared.records.Operation.{Operation}
 use Rattle.journals.specs.declared.records.Operation.TheVariants.{PushBack, PushFront, PopFront, PopBack, Drain, Truncate, TruncateFront, Insert, Remove}
-use Rattle.journals.specs.contracts.records.Operation.{the_type}
-use denote.Enum.Declared.{tag_of}
-use types.Run.{OneOf, miss}
 
 spaced-append : (u v : List (List ℕ)) → spaced (u ++ v) ≡ spaced u ++ spaced v
 unfolding spaced
@@ -36,31 +34,21 @@ whole_line w u v =
 
 -- ---- what a line says of an operation
 
--- the tags of the operations whose line says what was handed over, and of the others
-abbrev saying : List ℕ
-saying = 2 ∷ 3 ∷ 8 ∷ []
+-- the operations whose line says what was handed over
+abbrev IsSaying : Operation → Type 0
+IsSaying o = (o ≡ PopFront) ⊎ ((o ≡ PopBack) ⊎ ((i : ℕ) × (o ≡ Remove i)))
 
-abbrev silent : List ℕ
-silent = 0 ∷ 1 ∷ 4 ∷ 5 ∷ 6 ∷ 7 ∷ []
-
-word : (o : Operation) (h : Option ℕ) → OneOf saying (tag_of the_type o)
-    → number_or_none h ∷ [] ≡ handed_word (entry_for o) h
+word : (o : Operation) (h : Option ℕ) → IsSaying o → number_or_none h ∷ [] ≡ handed_word (entry_for o) h
 unfolding handed_word
-word PopFront h k = refl
-word PopBack h k = refl
-word (Remove i) h k = refl
-word (PushBack v) h k = absurd (miss saying 0 tt k)
-word (PushFront v) h k = absurd (miss saying 1 tt k)
-word (Drain i j) h k = absurd (miss saying 4 tt k)
-word (Truncate n) h k = absurd (miss saying 5 tt k)
-word (TruncateFront n) h k = absurd (miss saying 6 tt k)
-word (Insert i v) h k = absurd (miss saying 7 tt k)
+word o h (inl e) = rw e refl
+word o h (inr (inl e)) = rw e refl
+word o h (inr (inr k)) = rw k.1 refl
 
-no_word : (o : Operation) (h : Option ℕ) → OneOf silent (tag_of the_type o) → [] ≡ handed_word (entry_for o) h
+no_word : (o : Operation) (h : Option ℕ) → (IsSaying o → ⊥) → [] ≡ handed_word (entry_for o) h
 unfolding handed_word
-no_word PopFront h k = absurd (miss silent 2 tt k)
-no_word PopBack h k = absurd (miss silent 3 tt k)
-no_word (Remove i) h k = absurd (miss silent 8 tt k)
+no_word PopFront h k = absurd (k (inl refl))
+no_word PopBack h k = absurd (k (inr (inl refl)))
+no_word (Remove i) h k = absurd (k (inr (inr (i, refl))))
 no_word (PushBack v) h k = refl
 no_word (PushFront v) h k = refl
 no_word (Drain i j) h k = refl
@@ -69,11 +57,11 @@ no_word (TruncateFront n) h k = refl
 no_word (Insert i v) h k = refl
 
 module _ (t : List ℕ) (p : ℕ) (o : Operation) (h : Option ℕ) where
-  pub says : (t' : List ℕ) (q : ℕ) → OneOf saying (tag_of the_type o) → Puts t t' p q (space ∷ number_or_none h)
+  pub says : (t' : List ℕ) (q : ℕ) → IsSaying o → Puts t t' p q (space ∷ number_or_none h)
       → Puts t t' p q (spaced (handed_word (entry_for o) h))
   says t' q k a = puts_as t p t' q _ _ (spaced_one (number_or_none h) ∙ ap spaced (word o h k)) a
 
-  pub says_nothing : OneOf silent (tag_of the_type o) → Puts t t p p (spaced (handed_word (entry_for o) h))
+  pub says_nothing : (IsSaying o → ⊥) → Puts t t p p (spaced (handed_word (entry_for o) h))
   unfolding spaced
   says_nothing k = puts_as t p t p [] _ (ap spaced (no_word o h k)) (puts_none t p)
 

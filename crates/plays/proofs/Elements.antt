@@ -4,10 +4,7 @@ use mathlib.Core.Option.{Option, none, some}
 use mathlib.Core.Path.{◌≡◌, refl, sym, ◌∙◌, ap, subst}
 use Prim.Native.Nat.{ℕ, zero, suc, ◌+◌, ◌≤◌, ◌<◌, suc-le-suc, zero-le}
 use native.Mathlib.Omega.{arith}
-use denote.Enum.Declared.{tag_of}
 use lib.ListN.{length, get_elem?}
-use types.Run.{OneOf, miss}
-use Rattle.elements.specs.contracts.answers.Found.{the_type}
 use Rattle.elements.specs.Answers.{of_found}
 use Rattle.elements.specs.declared.answers.Found.{Found}
 use Rattle.elements.specs.declared.answers.Found.TheVariants.{Number, Nothing, Refused}
@@ -51,8 +48,8 @@ few_elements zero b r = omega (arith, length_list_of b r.head r.len)
 few_elements (suc n) b r = omega arith
 
 -- what was not found as a number was not found at all
-missed : (f : Found) → OneOf (1 ∷ 2 ∷ []) (tag_of the_type f) → found (of_found f) ≡ none
-missed (Number v) k = absurd (miss (1 ∷ 2 ∷ []) 0 tt k)
+missed : (f : Found) → ((v : ℕ) → f ≡ Number v → ⊥) → found (of_found f) ≡ none
+missed (Number v) k = absurd (k v refl)
 missed Nothing k = refl
 missed (Refused x) k = refl
 
@@ -73,7 +70,7 @@ module _ (y : Play) (i : ℕ) (f : Found) (h : of_found f ≡ look_at y.slots y.
       ap (λ (j : ℕ). ending y (in_elements j) (space ∷ decimal v)) at-k
       ∙ ap (λ (g : Found). word_of y i (found (of_found g))) (sym is) ∙ at_found
 
-  pub at_newline : OneOf (1 ∷ 2 ∷ []) (tag_of the_type f) → ending y over (newline ∷ [])
+  pub at_newline : ((v : ℕ) → f ≡ Number v → ⊥) → ending y over (newline ∷ [])
       ≡ word_of y i (get_elem? (elements y.slots y.queue) i)
   unfolding word_of
   at_newline k = ap (word_of y i) (sym (missed f k)) ∙ at_found

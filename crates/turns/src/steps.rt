@@ -48,7 +48,7 @@ fn on_drain(slots: &mut [u32], first: State, second: State, call: DrainCall) -> 
 }
 
 // Makes a call on both queues; while a drain of either is open it is passed over.
-fn on_both_lem(
+fn on_both(
     slots: &mut [u32],
     first: State,
     other_slots: &mut [u32],
@@ -101,7 +101,7 @@ fn on_first(
     match call {
         Call::OfQueue(one) => on_queue(slots, first, second, one, values, bytes),
         Call::OfDrain(one) => on_drain(slots, first, second, one),
-        Call::OfBoth(one) => on_both_lem(slots, first, other_slots, second, one),
+        Call::OfBoth(one) => on_both(slots, first, other_slots, second, one),
     }
 }
 

@@ -14,11 +14,11 @@ pub returns-in-Refused : goal.returns-in-Refused
 returns-in-Refused c = open_first _ _ _ _ _ c.check_change.ensures _ c.in-Refused.is
 
 pub returns-in-Refused-check_range : goal.returns-in-Refused-check_range
-returns-in-Refused-check_range c = open_range _ _ _ _ (let it : on_change (length c.args.slots.now) (rec_of c.args.q) 0 ≡ 0 = passed_zero _ _ c.check_change.ensures c.in_default.is in it) _
+returns-in-Refused-check_range c = open_range _ _ _ _ (passed_zero _ _ c.check_change.ensures c.in_default.is) _
     (failed_number _ _ _ c.check_range.ensures c.in-Refused-check_range.is)
 
 pub opened_drain-requires : goal.opened_drain-requires
-opened_drain-requires c = let k = range_ok _ _ _ _ (let it : in_range c.args.q.len c.args.start c.args.end 0 ≡ 0 = passed_zero _ _ c.check_range.ensures c.in_default-check_range.is in it) in omega arith
+opened_drain-requires c = let k = range_ok _ _ _ _ (passed_zero _ _ c.check_range.ensures c.in_default-check_range.is) in omega arith
 
 pub returns : goal.returns
-returns c = opens _ _ _ _ (let it : on_change (length c.args.slots.now) (rec_of c.args.q) 0 ≡ 0 = passed_zero _ _ c.check_change.ensures c.in_default.is in it) _ (let it : in_range c.args.q.len c.args.start c.args.end 0 ≡ 0 = passed_zero _ _ c.check_range.ensures c.in_default-check_range.is in it) c.opened_drain.ensures
+returns c = opens _ _ _ _ (passed_zero _ _ c.check_change.ensures c.in_default.is) _ (passed_zero _ _ c.check_range.ensures c.in_default-check_range.is) c.opened_drain.ensures

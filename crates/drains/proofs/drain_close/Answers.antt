@@ -17,11 +17,11 @@ unfolding do_close
 returns-in-Refused c = drain_refused _ _ _ c.check_drain.ensures _ _ c.in-Refused.is
 
 pub close_hole-settled-requires : goal.close_hole-settled-requires
-close_hole-settled-requires c = let g = drain_ok _ _ (let it : on_drain (length c.args.slots.now) (drain_of c.args.d) ≡ 0 = passed_zero _ _ c.check_drain.ensures c.in_default.is in it) in omega arith
+close_hole-settled-requires c = let g = drain_ok _ _ (passed_zero _ _ c.check_drain.ensures c.in_default.is) in omega arith
 
 pub closed_record-requires : goal.closed_record-requires
-closed_record-requires c = let g : GoodDrain (length c.args.slots.now) (drain_of c.args.d) = (drain_ok _ _ (let it : on_drain (length c.args.slots.now) (drain_of c.args.d) ≡ 0 = passed_zero _ _ c.check_drain.ensures c.in_default.is in it)).1 in omega arith
+closed_record-requires c = let g : GoodDrain (length c.args.slots.now) (drain_of c.args.d) = (drain_ok _ _ (passed_zero _ _ c.check_drain.ensures c.in_default.is)).1 in omega arith
 
 pub returns : goal.returns
-returns c = drain_closed _ _ _ _ _ _ (let it : on_drain (length c.args.slots.now) (drain_of c.args.d) ≡ 0 = passed_zero _ _ c.check_drain.ensures c.in_default.is in it)
+returns c = drain_closed _ _ _ _ _ _ (passed_zero _ _ c.check_drain.ensures c.in_default.is)
     c.close_hole-settled.ensures c.closed_record.ensures

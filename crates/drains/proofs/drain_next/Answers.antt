@@ -17,22 +17,22 @@ unfolding do_next
 returns-in-Refused c = drain_refused _ _ _ c.check_drain.ensures _ _ c.in-Refused.is
 
 pub returns-then-d-eq0 : goal.returns-then-d-eq0
-returns-then-d-eq0 c = next_none _ _ (let it : on_drain (length c.args.slots.now) (drain_of c.args.d) ≡ 0 = passed_zero _ _ c.check_drain.ensures c.in_default.is in it) c.if-d-eq0.true
+returns-then-d-eq0 c = next_none _ _ (passed_zero _ _ c.check_drain.ensures c.in_default.is) c.if-d-eq0.true
 
 pub as_opened-requires : goal.as_opened-requires
-as_opened-requires c = let g : GoodDrain (length c.args.slots.now) (drain_of c.args.d) = (drain_ok _ _ (let it : on_drain (length c.args.slots.now) (drain_of c.args.d) ≡ 0 = passed_zero _ _ c.check_drain.ensures c.in_default.is in it)).1 in omega arith
+as_opened-requires c = let g : GoodDrain (length c.args.slots.now) (drain_of c.args.d) = (drain_ok _ _ (passed_zero _ _ c.check_drain.ensures c.in_default.is)).1 in omega arith
 
 pub element-requires : goal.element-requires
 element-requires c =
     let z : on_drain (length c.args.slots.now) (drain_of c.args.d) ≡ 0 = passed_zero _ _ c.check_drain.ensures c.in_default.is in
-    let g : GoodDrain (length c.args.slots.now) (drain_of c.args.d) = (drain_ok _ _ (let it : on_drain (length c.args.slots.now) (drain_of c.args.d) ≡ 0 = passed_zero _ _ c.check_drain.ensures c.in_default.is in it)).1 in
+    let g : GoodDrain (length c.args.slots.now) (drain_of c.args.d) = (drain_ok _ _ (passed_zero _ _ c.check_drain.ensures c.in_default.is)).1 in
     (drain_queue _ _ z _ c.as_opened.ensures, remains_in _ _ z _ c.as_opened.ensures _ (omega arith))
 
 pub from_front-requires : goal.from_front-requires
-from_front-requires c = let g : GoodDrain (length c.args.slots.now) (drain_of c.args.d) = (drain_ok _ _ (let it : on_drain (length c.args.slots.now) (drain_of c.args.d) ≡ 0 = passed_zero _ _ c.check_drain.ensures c.in_default.is in it)).1 in omega arith
+from_front-requires c = let g : GoodDrain (length c.args.slots.now) (drain_of c.args.d) = (drain_ok _ _ (passed_zero _ _ c.check_drain.ensures c.in_default.is)).1 in omega arith
 
 pub returns : goal.returns
 returns c =
-    next_some _ _ (let it : on_drain (length c.args.slots.now) (drain_of c.args.d) ≡ 0 = passed_zero _ _ c.check_drain.ensures c.in_default.is in it) _ _ c.from_front.ensures
+    next_some _ _ (passed_zero _ _ c.check_drain.ensures c.in_default.is) _ _ c.from_front.ensures
     c.if-d-eq0.false
     _ c.as_opened.ensures c.element.ensures

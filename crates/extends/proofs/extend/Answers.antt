@@ -16,7 +16,7 @@ returns-in-Refused c =
     c.in-Refused.is)
 
 pub returns-then-n-eq0 : goal.returns-then-n-eq0
-returns-then-n-eq0 c = extended_none _ _ _ (let it : More c.args.slots.now (rec_of c.args.q) (length c.args.values.now) = more _ _ _ (passed_zero _ _ c.check_more.ensures c.in_default.is) in it) c.if-n-eq0.true
+returns-then-n-eq0 c = extended_none _ _ _ (more _ _ _ (passed_zero _ _ c.check_more.ensures c.in_default.is)) c.if-n-eq0.true
 
 pub overflow_add-total : goal.overflow_add-total
 overflow_add-total c = let m : More c.args.slots.now (rec_of c.args.q) (length c.args.values.now) = more _ _ _ (passed_zero _ _ c.check_more.ensures c.in_default.is) in omega arith
@@ -28,7 +28,7 @@ pub copy_slice-requires : goal.copy_slice-requires
 copy_slice-requires c = let m : More c.args.slots.now (rec_of c.args.q) (length c.args.values.now) = more _ _ _ (passed_zero _ _ c.check_more.ensures c.in_default.is) in (place_in _ _ _ _ c.wrap_add.ensures (omega arith) (omega arith), omega arith, m.ok.few)
 
 pub returns : goal.returns
-returns c = extended _ _ _ (let it : More c.args.slots.now (rec_of c.args.q) (length c.args.values.now) = more _ _ _ (passed_zero _ _ c.check_more.ensures c.in_default.is) in it)
+returns c = extended _ _ _ (more _ _ _ (passed_zero _ _ c.check_more.ensures c.in_default.is))
     c.if-n-eq0.false _ _ _
     c.copy_slice.ensures c.wrap_add.ensures
     c.stepped.ensures

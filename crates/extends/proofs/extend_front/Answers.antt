@@ -15,7 +15,7 @@ returns-in-Refused c =
     c.in-Refused.is)
 
 pub returns-then-n-eq0 : goal.returns-then-n-eq0
-returns-then-n-eq0 c = fronted_none _ _ _ (let it : More c.args.slots.now (rec_of c.args.q) (length c.args.values.now) = more _ _ _ (passed_zero _ _ c.check_more.ensures c.in_default.is) in it) c.if-n-eq0.true
+returns-then-n-eq0 c = fronted_none _ _ _ (more _ _ _ (passed_zero _ _ c.check_more.ensures c.in_default.is)) c.if-n-eq0.true
 
 pub stepped_back-queue-requires : goal.stepped_back-queue-requires
 stepped_back-queue-requires c = let m : More c.args.slots.now (rec_of c.args.q) (length c.args.values.now) = more _ _ _ (passed_zero _ _ c.check_more.ensures c.in_default.is) in (omega arith, omega arith, omega arith)
@@ -23,9 +23,9 @@ stepped_back-queue-requires c = let m : More c.args.slots.now (rec_of c.args.q) 
 pub copy_slice_reversed-requires : goal.copy_slice_reversed-requires
 copy_slice_reversed-requires c =
     front_fits _ _ c.args.values.now
-    (let it : More c.args.slots.now (rec_of c.args.q) (length c.args.values.now) = more _ _ _ (passed_zero _ _ c.check_more.ensures c.in_default.is) in it) c.if-n-eq0.false _ c.stepped_back-queue.ensures
+    (more _ _ _ (passed_zero _ _ c.check_more.ensures c.in_default.is)) c.if-n-eq0.false _ c.stepped_back-queue.ensures
 
 pub returns : goal.returns
-returns c = fronted _ _ _ (let it : More c.args.slots.now (rec_of c.args.q) (length c.args.values.now) = more _ _ _ (passed_zero _ _ c.check_more.ensures c.in_default.is) in it)
+returns c = fronted _ _ _ (more _ _ _ (passed_zero _ _ c.check_more.ensures c.in_default.is))
     c.if-n-eq0.false _ c.stepped_back-queue.ensures
     _ c.copy_slice_reversed.ensures

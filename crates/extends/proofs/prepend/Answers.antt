@@ -15,7 +15,7 @@ returns-in-Refused c =
     c.in-Refused.is)
 
 pub returns-then-n-eq0 : goal.returns-then-n-eq0
-returns-then-n-eq0 c = prepended_none _ _ _ (let it : More c.args.slots.now (rec_of c.args.q) (length c.args.values.now) = more _ _ _ (passed_zero _ _ c.check_more.ensures c.in_default.is) in it) c.if-n-eq0.true
+returns-then-n-eq0 c = prepended_none _ _ _ (more _ _ _ (passed_zero _ _ c.check_more.ensures c.in_default.is)) c.if-n-eq0.true
 
 pub stepped_back-queue-requires : goal.stepped_back-queue-requires
 stepped_back-queue-requires c = let m : More c.args.slots.now (rec_of c.args.q) (length c.args.values.now) = more _ _ _ (passed_zero _ _ c.check_more.ensures c.in_default.is) in (omega arith, omega arith, omega arith)
@@ -28,6 +28,6 @@ copy_slice-requires c =
     (k.0, k.1, m.ok.few)
 
 pub returns : goal.returns
-returns c = prepended _ _ _ (let it : More c.args.slots.now (rec_of c.args.q) (length c.args.values.now) = more _ _ _ (passed_zero _ _ c.check_more.ensures c.in_default.is) in it)
+returns c = prepended _ _ _ (more _ _ _ (passed_zero _ _ c.check_more.ensures c.in_default.is))
     c.if-n-eq0.false _ c.stepped_back-queue.ensures
     _ c.copy_slice.ensures

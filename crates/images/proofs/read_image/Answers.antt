@@ -12,18 +12,18 @@ returns-then-cap-most_slots c = let a = c.args in reads_slots a.slots.now a.byte
     (omega arith)
 
 pub overflow_sub-n : goal.overflow_sub-n
-overflow_sub-n c = omega (arith, laid_size _ (let it : laid_out c.args.bytes.now ≡ true = sym c.laid_out.ensures ∙ c.if-laid_out.true in it))
+overflow_sub-n c = omega (arith, laid_size _ (sym c.laid_out.ensures ∙ c.if-laid_out.true))
 
 pub returns-then-cap-n : goal.returns-then-cap-n
 returns-then-cap-n c = let a = c.args in reads_full a.slots.now
-    a.bytes.now (omega arith) (let it : laid_out c.args.bytes.now ≡ true = sym c.laid_out.ensures ∙ c.if-laid_out.true in it) c.if-cap-n.true
+    a.bytes.now (omega arith) (sym c.laid_out.ensures ∙ c.if-laid_out.true) c.if-cap-n.true
 
 pub take_elements-requires : goal.take_elements-requires
-take_elements-requires c = omega (arith, laid_size _ (let it : laid_out c.args.bytes.now ≡ true = sym c.laid_out.ensures ∙ c.if-laid_out.true in it))
+take_elements-requires c = omega (arith, laid_size _ (sym c.laid_out.ensures ∙ c.if-laid_out.true))
 
 pub returns-then-laid_out : goal.returns-then-laid_out
 returns-then-laid_out c = let a = c.args in reads a.slots.now a.bytes.now (omega arith)
-    (let it : laid_out c.args.bytes.now ≡ true = sym c.laid_out.ensures ∙ c.if-laid_out.true in it) _ _
+    (sym c.laid_out.ensures ∙ c.if-laid_out.true) _ _
     c.if-cap-n.false c.take_elements.ensures
     c.new_record.ensures
 

@@ -13,13 +13,13 @@ pub offset_bounds-slots-a : goal.offset_bounds-slots-a
 offset_bounds-slots-a c = let w : Within (length c.args.slots.now) (span_of c.back_span-run.result) = rw c.back_span-run.ensures (runs_within _ _ _ _).back in omega arith
 
 pub slice_bounds-result-count : goal.slice_bounds-result-count
-slice_bounds-result-count c = ((let it : Within (length c.args.slots.now) (span_of c.back_span-run.result) = rw c.back_span-run.ensures (runs_within _ _ _ _).back in it)).ordered
+slice_bounds-result-count c = (let it : Within (length c.args.slots.now) (span_of c.back_span-run.result) = rw c.back_span-run.ensures (runs_within _ _ _ _).back in it).ordered
 
 pub slice_bounds-result-start : goal.slice_bounds-result-start
-slice_bounds-result-start c = ((let it : Within (length c.args.slots.now) (span_of c.back_span-run.result) = rw c.back_span-run.ensures (runs_within _ _ _ _).back in it)).ordered
+slice_bounds-result-start c = (let it : Within (length c.args.slots.now) (span_of c.back_span-run.result) = rw c.back_span-run.ensures (runs_within _ _ _ _).back in it).ordered
 
 pub slice_bounds-result-end : goal.slice_bounds-result-end
-slice_bounds-result-end c = ((let it : Within (length c.args.slots.now) (span_of c.back_span-run.result) = rw c.back_span-run.ensures (runs_within _ _ _ _).back in it)).inside
+slice_bounds-result-end c = (let it : Within (length c.args.slots.now) (span_of c.back_span-run.result) = rw c.back_span-run.ensures (runs_within _ _ _ _).back in it).inside
 
 pub returns : goal.returns
 unfolding part back_run

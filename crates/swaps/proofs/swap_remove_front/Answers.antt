@@ -17,19 +17,19 @@ returns-in-Refused c =
     (told_first_lem _ _ _ c.check_change.ensures _ _ c.in-Refused.is)
 
 pub returns-then-index-len : goal.returns-then-index-len
-returns-then-index-len c = front_past _ _ (let it : on_change (length c.args.slots.now) (rec_of c.args.q) 0 ≡ 0 = passed_zero _ _ c.check_change.ensures c.in_default.is in it) _ c.if-index-len.true
+returns-then-index-len c = front_past _ _ (passed_zero _ _ c.check_change.ensures c.in_default.is) _ c.if-index-len.true
 
 pub returns-then-index-eq0 : goal.returns-then-index-eq0
-returns-then-index-eq0 c = c.pop_front.ensures ∙ front_first _ _ (let it : on_change (length c.args.slots.now) (rec_of c.args.q) 0 ≡ 0 = passed_zero _ _ c.check_change.ensures c.in_default.is in it) _ c.if-index-len.false c.if-index-eq0.true
+returns-then-index-eq0 c = c.pop_front.ensures ∙ front_first _ _ (passed_zero _ _ c.check_change.ensures c.in_default.is) _ c.if-index-len.false c.if-index-eq0.true
 
 pub wrap_add-requires : goal.wrap_add-requires
-wrap_add-requires c = let g = ((let it : Fine c.args.slots.now (rec_of c.args.q) = fine_change _ _ (let it : on_change (length c.args.slots.now) (rec_of c.args.q) 0 ≡ 0 = passed_zero _ _ c.check_change.ensures c.in_default.is in it) in it)).good in omega arith
+wrap_add-requires c = let g = (fine_change _ _ (passed_zero _ _ c.check_change.ensures c.in_default.is)).good in omega arith
 
 pub fill-number-requires : goal.fill-number-requires
-fill-number-requires c = let g = ((let it : Fine c.args.slots.now (rec_of c.args.q) = fine_change _ _ (let it : on_change (length c.args.slots.now) (rec_of c.args.q) 0 ≡ 0 = passed_zero _ _ c.check_change.ensures c.in_default.is in it) in it)).good in ((let it : c.wrap_add.result.0 < length c.args.slots.now = let a = c.args in let g = ((let it : Fine c.args.slots.now (rec_of c.args.q) = fine_change _ _ (let it : on_change (length c.args.slots.now) (rec_of c.args.q) 0 ≡ 0 = passed_zero _ _ c.check_change.ensures c.in_default.is in it) in it)).good in omega (arith, c.wrap_add.ensures, place-low (length a.slots.now) a.q.head.0 (omega arith) a.index (omega arith)) in it), omega arith)
+fill-number-requires c = let g = (fine_change _ _ (passed_zero _ _ c.check_change.ensures c.in_default.is)).good in ((let it : c.wrap_add.result.0 < length c.args.slots.now = let a = c.args in let g = (fine_change _ _ (passed_zero _ _ c.check_change.ensures c.in_default.is)).good in omega (arith, c.wrap_add.ensures, place-low (length a.slots.now) a.q.head.0 (omega arith) a.index (omega arith)) in it), omega arith)
 
 pub wrap_add-next-requires : goal.wrap_add-next-requires
-wrap_add-next-requires c = let g = ((let it : Fine c.args.slots.now (rec_of c.args.q) = fine_change _ _ (let it : on_change (length c.args.slots.now) (rec_of c.args.q) 0 ≡ 0 = passed_zero _ _ c.check_change.ensures c.in_default.is in it) in it)).good in omega arith
+wrap_add-next-requires c = let g = (fine_change _ _ (passed_zero _ _ c.check_change.ensures c.in_default.is)).good in omega arith
 
 pub returns : goal.returns
-returns c = front_filled _ _ (let it : on_change (length c.args.slots.now) (rec_of c.args.q) 0 ≡ 0 = passed_zero _ _ c.check_change.ensures c.in_default.is in it) _ c.if-index-len.false _ _ _ _ _ c.if-index-eq0.false c.wrap_add.ensures c.fill-number.ensures.0 c.fill-number.ensures.1 c.wrap_add-next.ensures c.stepped.ensures
+returns c = front_filled _ _ (passed_zero _ _ c.check_change.ensures c.in_default.is) _ c.if-index-len.false _ _ _ _ _ c.if-index-eq0.false c.wrap_add.ensures c.fill-number.ensures.0 c.fill-number.ensures.1 c.wrap_add-next.ensures c.stepped.ensures

@@ -14,13 +14,13 @@ returns-in-Refused c = step-refused back _ _ _
     (failed_number _ _ _ c.check_walk.ensures c.in-Refused.is)
 
 pub returns-then-low-high : goal.returns-then-low-high
-returns-then-low-high c = nothing_left back _ _ (let it : on_walk (length c.args.slots.now) (walk_of c.args.w) ≡ 0 = passed_zero _ _ c.check_walk.ensures c.in_default.is in it) c.if-low-high.true
+returns-then-low-high c = nothing_left back _ _ (passed_zero _ _ c.check_walk.ensures c.in_default.is) c.if-low-high.true
 
 pub overflow_sub-last : goal.overflow_sub-last
-overflow_sub-last c = let k : Walkable c.args.slots.now (walk_of c.args.w) = walkable _ _ (let it : on_walk (length c.args.slots.now) (walk_of c.args.w) ≡ 0 = passed_zero _ _ c.check_walk.ensures c.in_default.is in it) in omega arith
+overflow_sub-last c = let k : Walkable c.args.slots.now (walk_of c.args.w) = walkable _ _ (passed_zero _ _ c.check_walk.ensures c.in_default.is) in omega arith
 
 pub element-requires : goal.element-requires
-element-requires c = let k : Walkable c.args.slots.now (walk_of c.args.w) = walkable _ _ (let it : on_walk (length c.args.slots.now) (walk_of c.args.w) ≡ 0 = passed_zero _ _ c.check_walk.ensures c.in_default.is in it) in (k.first, omega arith)
+element-requires c = let k : Walkable c.args.slots.now (walk_of c.args.w) = walkable _ _ (passed_zero _ _ c.check_walk.ensures c.in_default.is) in (k.first, omega arith)
 
 pub returns : goal.returns
-returns c = one_given back _ _ (let it : on_walk (length c.args.slots.now) (walk_of c.args.w) ≡ 0 = passed_zero _ _ c.check_walk.ensures c.in_default.is in it) _ c.if-low-high.false c.element.ensures
+returns c = one_given back _ _ (passed_zero _ _ c.check_walk.ensures c.in_default.is) _ c.if-low-high.false c.element.ensures

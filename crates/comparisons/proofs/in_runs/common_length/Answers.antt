@@ -32,8 +32,8 @@ element_in-w-requires c = c.if-i-other_len.false
 
 pub returns-then-v-w : goal.returns-then-v-w
 returns-then-v-w c =
-    differs _ _ _ c.loop-i.invariant.2 (let it : c.loop-i.i < length (c.args.front.now ++ c.args.back.now) = within_runs c.args.front.now c.args.back.now _ c.loop-i-test.true in it)
-    (let it : c.loop-i.i < length (c.args.other_front.now ++ c.args.other_back.now) = within_runs c.args.other_front.now c.args.other_back.now _ c.if-i-other_len.false in it)
+    differs _ _ _ c.loop-i.invariant.2 (within_runs c.args.front.now c.args.back.now _ c.loop-i-test.true)
+    (within_runs c.args.other_front.now c.args.other_back.now _ c.if-i-other_len.false)
     (λ e. c.if-v-w.true (c.element_in-v.ensures ∙ e ∙ sym c.element_in-w.ensures))
 
 pub overflow_add-i : goal.overflow_add-i
@@ -47,7 +47,7 @@ loop-i-preserved c = (
   omega arith,
   omega arith,
   agrees _ _ _ c.loop-i.invariant.2
-      (let it : c.loop-i.i < length (c.args.front.now ++ c.args.back.now) = within_runs c.args.front.now c.args.back.now _ c.loop-i-test.true in it) (let it : c.loop-i.i < length (c.args.other_front.now ++ c.args.other_back.now) = within_runs c.args.other_front.now c.args.other_back.now _ c.if-i-other_len.false in it)
+      (within_runs c.args.front.now c.args.back.now _ c.loop-i-test.true) (within_runs c.args.other_front.now c.args.other_back.now _ c.if-i-other_len.false)
       (sym c.element_in-v.ensures ∙ c.if-v-w.false ∙ c.element_in-w.ensures),
 )
 

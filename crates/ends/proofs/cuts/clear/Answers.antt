@@ -13,4 +13,4 @@ returns-in-Refused c =
     c.in-Refused.is)
 
 pub returns : goal.returns
-returns c = cleared _ _ (let it : on_change (length c.args.slots.now) (rec_of c.args.q) 0 ≡ 0 = passed_zero _ _ c.check_change.ensures c.in_default.is in it) _ _ c.zero-head.ensures c.stepped.ensures
+returns c = cleared _ _ (passed_zero _ _ c.check_change.ensures c.in_default.is) _ _ c.zero-head.ensures c.stepped.ensures

@@ -12,7 +12,7 @@ returns-in-Refused c =
     (told_first_lem _ _ _ c.check_change.ensures _ _ c.in-Refused.is)
 
 pub returns-then-n-q : goal.returns-then-n-q
-returns-then-n-q c = all_kept _ _ (let it : on_change (length c.args.slots.now) (rec_of c.args.q) 0 ≡ 0 = passed_zero _ _ c.check_change.ensures c.in_default.is in it) _ c.if-n-q.true
+returns-then-n-q c = all_kept _ _ (passed_zero _ _ c.check_change.ensures c.in_default.is) _ c.if-n-q.true
 
 pub returns : goal.returns
-returns c = back_cut _ _ (let it : on_change (length c.args.slots.now) (rec_of c.args.q) 0 ≡ 0 = passed_zero _ _ c.check_change.ensures c.in_default.is in it) _ _ c.if-n-q.false c.stepped.ensures
+returns c = back_cut _ _ (passed_zero _ _ c.check_change.ensures c.in_default.is) _ _ c.if-n-q.false c.stepped.ensures

@@ -13,11 +13,11 @@ returns-in-Refused c =
     c.in-Refused.is)
 
 pub returns-then-n-len : goal.returns-then-n-len
-returns-then-n-len c = front_kept _ _ (let it : on_change (length c.args.slots.now) (rec_of c.args.q) 0 ≡ 0 = passed_zero _ _ c.check_change.ensures c.in_default.is in it) _ c.if-n-len.true
+returns-then-n-len c = front_kept _ _ (passed_zero _ _ c.check_change.ensures c.in_default.is) _ c.if-n-len.true
 
 pub wrap_add-head-requires : goal.wrap_add-head-requires
-wrap_add-head-requires c = let g = ((let it : Fine c.args.slots.now (rec_of c.args.q) = fine_change _ _ (let it : on_change (length c.args.slots.now) (rec_of c.args.q) 0 ≡ 0 = passed_zero _ _ c.check_change.ensures c.in_default.is in it) in it)).good in omega arith
+wrap_add-head-requires c = let g = (fine_change _ _ (passed_zero _ _ c.check_change.ensures c.in_default.is)).good in omega arith
 
 pub returns : goal.returns
-returns c = front_cut _ _ (let it : on_change (length c.args.slots.now) (rec_of c.args.q) 0 ≡ 0 = passed_zero _ _ c.check_change.ensures c.in_default.is in it) _ _ _ c.if-n-len.false
+returns c = front_cut _ _ (passed_zero _ _ c.check_change.ensures c.in_default.is) _ _ _ c.if-n-len.false
     c.wrap_add-head.ensures c.stepped.ensures

@@ -12,17 +12,17 @@ pub returns-in-Refused : goal.returns-in-Refused
 returns-in-Refused c = look_first _ _ _ _ c.check.ensures _ c.in-Refused.is
 
 pub wrap_add-at-requires : goal.wrap_add-at-requires
-wrap_add-at-requires c = let g = ((let it : Fine c.args.slots.now (rec_of c.args.q) = fine _ _ (let it : on_queue (length c.args.slots.now) (rec_of c.args.q) 0 ≡ 0 = passed_zero _ _ c.check.ensures c.in_default.is in it) in it)).good in omega arith
+wrap_add-at-requires c = let g = (fine _ _ (passed_zero _ _ c.check.ensures c.in_default.is)).good in omega arith
 
 pub offset_bounds-slots-p : goal.offset_bounds-slots-p
-offset_bounds-slots-p c = let k : c.as_index-p.result < length c.args.slots.now = let a = c.args in let g = ((let it : Fine c.args.slots.now (rec_of c.args.q) = fine _ _ (let it : on_queue (length c.args.slots.now) (rec_of c.args.q) 0 ≡ 0 = passed_zero _ _ c.check.ensures c.in_default.is in it) in it)).good in omega ( arith, c.as_index-p.ensures, c.wrap_add-at.ensures, place-low (length a.slots.now) a.q.head.0 (omega arith) a.i (omega arith), ) in omega arith
+offset_bounds-slots-p c = let k : c.as_index-p.result < length c.args.slots.now = let a = c.args in let g = (fine _ _ (passed_zero _ _ c.check.ensures c.in_default.is)).good in omega ( arith, c.as_index-p.ensures, c.wrap_add-at.ensures, place-low (length a.slots.now) a.q.head.0 (omega arith) a.i (omega arith), ) in omega arith
 
 pub bounds-slots-p : goal.bounds-slots-p
-bounds-slots-p c = (let it : c.as_index-p.result < length c.args.slots.now = let a = c.args in let g = ((let it : Fine c.args.slots.now (rec_of c.args.q) = fine _ _ (let it : on_queue (length c.args.slots.now) (rec_of c.args.q) 0 ≡ 0 = passed_zero _ _ c.check.ensures c.in_default.is in it) in it)).good in omega ( arith, c.as_index-p.ensures, c.wrap_add-at.ensures, place-low (length a.slots.now) a.q.head.0 (omega arith) a.i (omega arith), ) in it)
+bounds-slots-p c = (let it : c.as_index-p.result < length c.args.slots.now = let a = c.args in let g = (fine _ _ (passed_zero _ _ c.check.ensures c.in_default.is)).good in omega ( arith, c.as_index-p.ensures, c.wrap_add-at.ensures, place-low (length a.slots.now) a.q.head.0 (omega arith) a.i (omega arith), ) in it)
 
 pub returns-then-i-q : goal.returns-then-i-q
-returns-then-i-q c = seen_at _ _ (let it : on_queue (length c.args.slots.now) (rec_of c.args.q) 0 ≡ 0 = passed_zero _ _ c.check.ensures c.in_default.is in it) _ _ _
+returns-then-i-q c = seen_at _ _ (passed_zero _ _ c.check.ensures c.in_default.is) _ _ _
     c.if-i-q.true (c.as_index-p.ensures ∙ c.wrap_add-at.ensures) refl
 
 pub returns : goal.returns
-returns c = unseen_past _ _ (let it : on_queue (length c.args.slots.now) (rec_of c.args.q) 0 ≡ 0 = passed_zero _ _ c.check.ensures c.in_default.is in it) _ c.if-i-q.false
+returns c = unseen_past _ _ (passed_zero _ _ c.check.ensures c.in_default.is) _ c.if-i-q.false

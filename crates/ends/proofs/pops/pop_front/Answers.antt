@@ -12,16 +12,16 @@ returns-in-Refused c =
     (told_first_lem _ _ _ c.check_change.ensures _ _ c.in-Refused.is)
 
 pub offset_bounds-slots-h : goal.offset_bounds-slots-h
-offset_bounds-slots-h c = let k : c.as_index-h.result < length c.args.slots.now = let g = ((let it : Fine c.args.slots.now (rec_of c.args.q) = fine_change _ _ (let it : on_change (length c.args.slots.now) (rec_of c.args.q) 0 ≡ 0 = passed_zero _ _ c.check_change.ensures c.in_default.is in it) in it)).good in omega (arith, c.as_index-h.ensures) in omega arith
+offset_bounds-slots-h c = let k : c.as_index-h.result < length c.args.slots.now = let g = (fine_change _ _ (passed_zero _ _ c.check_change.ensures c.in_default.is)).good in omega (arith, c.as_index-h.ensures) in omega arith
 
 pub bounds-slots-h : goal.bounds-slots-h
-bounds-slots-h c = (let it : c.as_index-h.result < length c.args.slots.now = let g = ((let it : Fine c.args.slots.now (rec_of c.args.q) = fine_change _ _ (let it : on_change (length c.args.slots.now) (rec_of c.args.q) 0 ≡ 0 = passed_zero _ _ c.check_change.ensures c.in_default.is in it) in it)).good in omega (arith, c.as_index-h.ensures) in it)
+bounds-slots-h c = (let it : c.as_index-h.result < length c.args.slots.now = let g = (fine_change _ _ (passed_zero _ _ c.check_change.ensures c.in_default.is)).good in omega (arith, c.as_index-h.ensures) in it)
 
 pub next-next-requires : goal.next-next-requires
-next-next-requires c = let g = ((let it : Fine c.args.slots.now (rec_of c.args.q) = fine_change _ _ (let it : on_change (length c.args.slots.now) (rec_of c.args.q) 0 ≡ 0 = passed_zero _ _ c.check_change.ensures c.in_default.is in it) in it)).good in omega arith
+next-next-requires c = let g = (fine_change _ _ (passed_zero _ _ c.check_change.ensures c.in_default.is)).good in omega arith
 
 pub returns-then-len-gt0 : goal.returns-then-len-gt0
-returns-then-len-gt0 c = front_popped _ _ (let it : on_change (length c.args.slots.now) (rec_of c.args.q) 0 ≡ 0 = passed_zero _ _ c.check_change.ensures c.in_default.is in it) _ _ _ _ (λ none. omega (arith, c.if-len-gt0.true, none)) c.as_index-h.ensures refl c.next-next.ensures c.stepped.ensures
+returns-then-len-gt0 c = front_popped _ _ (passed_zero _ _ c.check_change.ensures c.in_default.is) _ _ _ _ (λ none. omega (arith, c.if-len-gt0.true, none)) c.as_index-h.ensures refl c.next-next.ensures c.stepped.ensures
 
 pub returns : goal.returns
-returns c = front_none _ _ (let it : on_change (length c.args.slots.now) (rec_of c.args.q) 0 ≡ 0 = passed_zero _ _ c.check_change.ensures c.in_default.is in it) (omega arith)
+returns c = front_none _ _ (passed_zero _ _ c.check_change.ensures c.in_default.is) (omega arith)

@@ -14,23 +14,23 @@ returns-in-Refused c =
     c.in-Refused.is)
 
 pub wrap_add-behind-requires : goal.wrap_add-behind-requires
-wrap_add-behind-requires c = let g = ((let it : Fine c.args.slots.now (rec_of c.args.q) = fine_change _ _ (let it : on_change (length c.args.slots.now) (rec_of c.args.q) 0 ≡ 0 = passed_zero _ _ c.check_change.ensures c.in_default.is in it) in it)).good in omega arith
+wrap_add-behind-requires c = let g = (fine_change _ _ (passed_zero _ _ c.check_change.ensures c.in_default.is)).good in omega arith
 
 pub offset_bounds-slots-b : goal.offset_bounds-slots-b
-offset_bounds-slots-b c = let k : c.as_index-b.result < length c.args.slots.now = let a = c.args in let g = ((let it : Fine c.args.slots.now (rec_of c.args.q) = fine_change _ _ (let it : on_change (length c.args.slots.now) (rec_of c.args.q) 0 ≡ 0 = passed_zero _ _ c.check_change.ensures c.in_default.is in it) in it)).good in omega ( arith, c.as_index-b.ensures, c.wrap_add-behind.ensures, place-low (length a.slots.now) a.q.head.0 (omega arith) a.q.len (omega arith), ) in omega arith
+offset_bounds-slots-b c = let k : c.as_index-b.result < length c.args.slots.now = let a = c.args in let g = (fine_change _ _ (passed_zero _ _ c.check_change.ensures c.in_default.is)).good in omega ( arith, c.as_index-b.ensures, c.wrap_add-behind.ensures, place-low (length a.slots.now) a.q.head.0 (omega arith) a.q.len (omega arith), ) in omega arith
 
 pub bounds-slots-b : goal.bounds-slots-b
-bounds-slots-b c = (let it : c.as_index-b.result < length c.args.slots.now = let a = c.args in let g = ((let it : Fine c.args.slots.now (rec_of c.args.q) = fine_change _ _ (let it : on_change (length c.args.slots.now) (rec_of c.args.q) 0 ≡ 0 = passed_zero _ _ c.check_change.ensures c.in_default.is in it) in it)).good in omega ( arith, c.as_index-b.ensures, c.wrap_add-behind.ensures, place-low (length a.slots.now) a.q.head.0 (omega arith) a.q.len (omega arith), ) in it)
+bounds-slots-b c = (let it : c.as_index-b.result < length c.args.slots.now = let a = c.args in let g = (fine_change _ _ (passed_zero _ _ c.check_change.ensures c.in_default.is)).good in omega ( arith, c.as_index-b.ensures, c.wrap_add-behind.ensures, place-low (length a.slots.now) a.q.head.0 (omega arith) a.q.len (omega arith), ) in it)
 
 pub overflow_add-len : goal.overflow_add-len
-overflow_add-len c = let g = ((let it : Fine c.args.slots.now (rec_of c.args.q) = fine_change _ _ (let it : on_change (length c.args.slots.now) (rec_of c.args.q) 0 ≡ 0 = passed_zero _ _ c.check_change.ensures c.in_default.is in it) in it)).good in omega arith
+overflow_add-len c = let g = (fine_change _ _ (passed_zero _ _ c.check_change.ensures c.in_default.is)).good in omega arith
 
 pub returns-then-len-cap : goal.returns-then-len-cap
-returns-then-len-cap c = back_pushed _ _ (let it : on_change (length c.args.slots.now) (rec_of c.args.q) 0 ≡ 0 = passed_zero _ _ c.check_change.ensures c.in_default.is in it) _ _ _
+returns-then-len-cap c = back_pushed _ _ (passed_zero _ _ c.check_change.ensures c.in_default.is) _ _ _
     (λ full. omega (arith, c.if-len-cap.true, full))
     (c.as_index-b.ensures ∙ c.wrap_add-behind.ensures) c.stepped.ensures
 
 pub returns : goal.returns
 returns c =
     rw c.refused-2.ensures
-    (let g = ((let it : Fine c.args.slots.now (rec_of c.args.q) = fine_change _ _ (let it : on_change (length c.args.slots.now) (rec_of c.args.q) 0 ≡ 0 = passed_zero _ _ c.check_change.ensures c.in_default.is in it) in it)).good in back_full _ _ (let it : on_change (length c.args.slots.now) (rec_of c.args.q) 0 ≡ 0 = passed_zero _ _ c.check_change.ensures c.in_default.is in it) _ (omega arith))
+    (let g = (fine_change _ _ (passed_zero _ _ c.check_change.ensures c.in_default.is)).good in back_full _ _ (passed_zero _ _ c.check_change.ensures c.in_default.is) _ (omega arith))

@@ -14,23 +14,23 @@ returns-in-Refused c =
     c.in-Refused.is)
 
 pub wrap_sub-first-requires : goal.wrap_sub-first-requires
-wrap_sub-first-requires c = let g = ((let it : Fine c.args.slots.now (rec_of c.args.q) = fine_change _ _ (let it : on_change (length c.args.slots.now) (rec_of c.args.q) 0 ≡ 0 = passed_zero _ _ c.check_change.ensures c.in_default.is in it) in it)).good in omega arith
+wrap_sub-first-requires c = let g = (fine_change _ _ (passed_zero _ _ c.check_change.ensures c.in_default.is)).good in omega arith
 
 pub offset_bounds-slots-f : goal.offset_bounds-slots-f
-offset_bounds-slots-f c = let k : c.as_index-f.result < length c.args.slots.now = let a = c.args in let g = ((let it : Fine c.args.slots.now (rec_of c.args.q) = fine_change _ _ (let it : on_change (length c.args.slots.now) (rec_of c.args.q) 0 ≡ 0 = passed_zero _ _ c.check_change.ensures c.in_default.is in it) in it)).good in omega ( arith, c.as_index-f.ensures, c.wrap_sub-first.ensures, place-low (length a.slots.now) a.q.head.0 (omega arith) (length a.slots.now - 1) (omega arith), ) in omega arith
+offset_bounds-slots-f c = let k : c.as_index-f.result < length c.args.slots.now = let a = c.args in let g = (fine_change _ _ (passed_zero _ _ c.check_change.ensures c.in_default.is)).good in omega ( arith, c.as_index-f.ensures, c.wrap_sub-first.ensures, place-low (length a.slots.now) a.q.head.0 (omega arith) (length a.slots.now - 1) (omega arith), ) in omega arith
 
 pub bounds-slots-f : goal.bounds-slots-f
-bounds-slots-f c = (let it : c.as_index-f.result < length c.args.slots.now = let a = c.args in let g = ((let it : Fine c.args.slots.now (rec_of c.args.q) = fine_change _ _ (let it : on_change (length c.args.slots.now) (rec_of c.args.q) 0 ≡ 0 = passed_zero _ _ c.check_change.ensures c.in_default.is in it) in it)).good in omega ( arith, c.as_index-f.ensures, c.wrap_sub-first.ensures, place-low (length a.slots.now) a.q.head.0 (omega arith) (length a.slots.now - 1) (omega arith), ) in it)
+bounds-slots-f c = (let it : c.as_index-f.result < length c.args.slots.now = let a = c.args in let g = (fine_change _ _ (passed_zero _ _ c.check_change.ensures c.in_default.is)).good in omega ( arith, c.as_index-f.ensures, c.wrap_sub-first.ensures, place-low (length a.slots.now) a.q.head.0 (omega arith) (length a.slots.now - 1) (omega arith), ) in it)
 
 pub overflow_add-q : goal.overflow_add-q
-overflow_add-q c = let g = ((let it : Fine c.args.slots.now (rec_of c.args.q) = fine_change _ _ (let it : on_change (length c.args.slots.now) (rec_of c.args.q) 0 ≡ 0 = passed_zero _ _ c.check_change.ensures c.in_default.is in it) in it)).good in omega arith
+overflow_add-q c = let g = (fine_change _ _ (passed_zero _ _ c.check_change.ensures c.in_default.is)).good in omega arith
 
 pub returns-then-q-cap : goal.returns-then-q-cap
-returns-then-q-cap c = front_pushed _ _ (let it : on_change (length c.args.slots.now) (rec_of c.args.q) 0 ≡ 0 = passed_zero _ _ c.check_change.ensures c.in_default.is in it) _ _ _ _
+returns-then-q-cap c = front_pushed _ _ (passed_zero _ _ c.check_change.ensures c.in_default.is) _ _ _ _
     (λ full. omega (arith, c.if-q-cap.true, full)) c.as_index-f.ensures
     c.wrap_sub-first.ensures c.stepped.ensures
 
 pub returns : goal.returns
 returns c =
     rw c.refused-2.ensures
-    (let g = ((let it : Fine c.args.slots.now (rec_of c.args.q) = fine_change _ _ (let it : on_change (length c.args.slots.now) (rec_of c.args.q) 0 ≡ 0 = passed_zero _ _ c.check_change.ensures c.in_default.is in it) in it)).good in front_full _ _ (let it : on_change (length c.args.slots.now) (rec_of c.args.q) 0 ≡ 0 = passed_zero _ _ c.check_change.ensures c.in_default.is in it) _ (omega arith))
+    (let g = (fine_change _ _ (passed_zero _ _ c.check_change.ensures c.in_default.is)).good in front_full _ _ (passed_zero _ _ c.check_change.ensures c.in_default.is) _ (omega arith))

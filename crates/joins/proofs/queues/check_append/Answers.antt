@@ -16,19 +16,19 @@ returns-in-Refused c = queue-refuses _ _ _ _ _ c.check_change.ensures c.in-Refus
 
 pub returns-in-Refused-check_change : goal.returns-in-Refused-check_change
 unfolding on_appending
-returns-in-Refused-check_change c = queue-passes _ _ _ _ (let it : on_change c.args.cap (rec_of c.args.q) 0 ≡ 0 = passed_zero _ _ c.check_change.ensures c.in_default.is in it)
+returns-in-Refused-check_change c = queue-passes _ _ _ _ (passed_zero _ _ c.check_change.ensures c.in_default.is)
     (queue-refuses _ _ _ _ _ c.check_change-2.ensures c.in-Refused-check_change.is)
 
 pub overflow_sub-cap : goal.overflow_sub-cap
-overflow_sub-cap c = let g = (change_ok _ _ 0 (let it : on_change c.args.cap (rec_of c.args.q) 0 ≡ 0 = passed_zero _ _ c.check_change.ensures c.in_default.is in it)).0 in omega arith
+overflow_sub-cap c = let g = (change_ok _ _ 0 (passed_zero _ _ c.check_change.ensures c.in_default.is)).0 in omega arith
 
 pub returns-then-other-cap : goal.returns-then-other-cap
 unfolding on_appending
-returns-then-other-cap c = queue-passes _ _ _ _ (let it : on_change c.args.cap (rec_of c.args.q) 0 ≡ 0 = passed_zero _ _ c.check_change.ensures c.in_default.is in it)
-    (queue-passes _ _ _ _ (let it : on_change c.args.other_cap (rec_of c.args.other) 0 ≡ 0 = passed_zero _ _ c.check_change-2.ensures c.in_default-check_change.is in it) (room-refuses _ _ (omega arith)))
+returns-then-other-cap c = queue-passes _ _ _ _ (passed_zero _ _ c.check_change.ensures c.in_default.is)
+    (queue-passes _ _ _ _ (passed_zero _ _ c.check_change-2.ensures c.in_default-check_change.is) (room-refuses _ _ (omega arith)))
 
 pub returns : goal.returns
 unfolding on_appending
-returns c = let g = (change_ok _ _ 0 (let it : on_change c.args.cap (rec_of c.args.q) 0 ≡ 0 = passed_zero _ _ c.check_change.ensures c.in_default.is in it)).0 in queue-passes _ _
-    _ _ (let it : on_change c.args.cap (rec_of c.args.q) 0 ≡ 0 = passed_zero _ _ c.check_change.ensures c.in_default.is in it)
-    (queue-passes _ _ _ _ (let it : on_change c.args.other_cap (rec_of c.args.other) 0 ≡ 0 = passed_zero _ _ c.check_change-2.ensures c.in_default-check_change.is in it) (room-passes _ _ (omega arith)))
+returns c = let g = (change_ok _ _ 0 (passed_zero _ _ c.check_change.ensures c.in_default.is)).0 in queue-passes _ _
+    _ _ (passed_zero _ _ c.check_change.ensures c.in_default.is)
+    (queue-passes _ _ _ _ (passed_zero _ _ c.check_change-2.ensures c.in_default-check_change.is) (room-passes _ _ (omega arith)))

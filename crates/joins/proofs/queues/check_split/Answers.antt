@@ -15,22 +15,22 @@ returns-in-Refused c = queue-refuses _ _ _ _ _ c.check_change.ensures c.in-Refus
 
 pub returns-then-target_cap-most : goal.returns-then-target_cap-most
 unfolding on_splitting
-returns-then-target_cap-most c = queue-passes _ _ _ _ (let it : on_change c.args.cap (rec_of c.args.q) 0 ≡ 0 = passed_zero _ _ c.check_change.ensures c.in_default.is in it)
+returns-then-target_cap-most c = queue-passes _ _ _ _ (passed_zero _ _ c.check_change.ensures c.in_default.is)
     (slots_refuse _ _ (omega (arith, c.most_slots-most.ensures)))
 
 pub returns-then-at-len : goal.returns-then-at-len
 unfolding on_splitting
-returns-then-at-len c = queue-passes _ _ _ _ (let it : on_change c.args.cap (rec_of c.args.q) 0 ≡ 0 = passed_zero _ _ c.check_change.ensures c.in_default.is in it)
+returns-then-at-len c = queue-passes _ _ _ _ (passed_zero _ _ c.check_change.ensures c.in_default.is)
     (slots_pass _ _ _ (omega (arith, c.most_slots-most.ensures)) (position-refuses _ _ _ c.if-at-len.true))
 
 pub returns-then-len-at : goal.returns-then-len-at
 unfolding on_splitting
-returns-then-len-at c = queue-passes _ _ _ _ (let it : on_change c.args.cap (rec_of c.args.q) 0 ≡ 0 = passed_zero _ _ c.check_change.ensures c.in_default.is in it)
+returns-then-len-at c = queue-passes _ _ _ _ (passed_zero _ _ c.check_change.ensures c.in_default.is)
     (slots_pass _ _ _ (omega (arith, c.most_slots-most.ensures))
     (position-passes _ _ _ _ c.if-at-len.false (room-refuses _ _ c.if-len-at.true)))
 
 pub returns : goal.returns
 unfolding on_splitting
-returns c = queue-passes _ _ _ _ (let it : on_change c.args.cap (rec_of c.args.q) 0 ≡ 0 = passed_zero _ _ c.check_change.ensures c.in_default.is in it)
+returns c = queue-passes _ _ _ _ (passed_zero _ _ c.check_change.ensures c.in_default.is)
     (slots_pass _ _ _ (omega (arith, c.most_slots-most.ensures))
     (position-passes _ _ _ _ c.if-at-len.false (room-passes _ _ c.if-len-at.false)))

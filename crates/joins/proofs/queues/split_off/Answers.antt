@@ -15,16 +15,16 @@ pub returns-in-Refused : goal.returns-in-Refused
 returns-in-Refused c = split_refused _ _ _ _ _ _ c.check_split.ensures c.in-Refused.is
 
 pub overflow_sub-later : goal.overflow_sub-later
-overflow_sub-later c = let k = ((let it : Splits c.args.slots.now (rec_of c.args.q) c.args.target.now c.args.at = splits _ _ _ _ (let it : on_splitting (length c.args.slots.now) (rec_of c.args.q) (length c.args.target.now) c.args.at ≡ 0 = passed_zero _ _ c.check_split.ensures c.in_default.is in it) in it)).within in omega arith
+overflow_sub-later c = let k = (splits _ _ _ _ (passed_zero _ _ c.check_split.ensures c.in_default.is)).within in omega arith
 
 pub copy_range-requires : goal.copy_range-requires
 copy_range-requires c =
-    let k : Splits c.args.slots.now (rec_of c.args.q) c.args.target.now c.args.at = splits _ _ _ _ (let it : on_splitting (length c.args.slots.now) (rec_of c.args.q) (length c.args.target.now) c.args.at ≡ 0 = passed_zero _ _ c.check_split.ensures c.in_default.is in it) in
+    let k : Splits c.args.slots.now (rec_of c.args.q) c.args.target.now c.args.at = splits _ _ _ _ (passed_zero _ _ c.check_split.ensures c.in_default.is) in
     let within = k.within in
     record { q_value = (change_queue _ _ 0 k.ours, omega arith); dst_in_bounds = (omega (arith, c.zero.ensures), k.fits, k.few) }
 
 pub returns : goal.returns
 returns c =
-    split_done _ _ _ _ (let it : on_splitting (length c.args.slots.now) (rec_of c.args.q) (length c.args.target.now) c.args.at ≡ 0 = passed_zero _ _ c.check_split.ensures c.in_default.is in it) _ _ _ _
+    split_done _ _ _ _ (passed_zero _ _ c.check_split.ensures c.in_default.is) _ _ _ _
     c.zero.ensures c.copy_range.ensures
     c.stepped.ensures c.new_record.ensures

@@ -18,23 +18,23 @@ returns-in-Refused c =
     c.in-Refused.is)
 
 pub returns-then-index-len : goal.returns-then-index-len
-returns-then-index-len c = remove_none _ _ (let it : on_change (length c.args.slots.now) (rec_of c.args.q) 0 ≡ 0 = passed_zero _ _ c.check_change.ensures c.in_default.is in it) _ c.if-index-len.true
+returns-then-index-len c = remove_none _ _ (passed_zero _ _ c.check_change.ensures c.in_default.is) _ c.if-index-len.true
 
 pub wrap_add-at-requires : goal.wrap_add-at-requires
-wrap_add-at-requires c = let g = ((let it : Fine c.args.slots.now (rec_of c.args.q) = fine_change _ _ (let it : on_change (length c.args.slots.now) (rec_of c.args.q) 0 ≡ 0 = passed_zero _ _ c.check_change.ensures c.in_default.is in it) in it)).good in omega arith
+wrap_add-at-requires c = let g = (fine_change _ _ (passed_zero _ _ c.check_change.ensures c.in_default.is)).good in omega arith
 
 pub offset_bounds-slots-i : goal.offset_bounds-slots-i
-offset_bounds-slots-i c = let k : c.as_index-i.result < length c.args.slots.now = let a = c.args in let g = ((let it : Fine c.args.slots.now (rec_of c.args.q) = fine_change _ _ (let it : on_change (length c.args.slots.now) (rec_of c.args.q) 0 ≡ 0 = passed_zero _ _ c.check_change.ensures c.in_default.is in it) in it)).good in omega ( arith, c.as_index-i.ensures, c.wrap_add-at.ensures, place-low (length a.slots.now) a.q.head.0 (omega arith) a.index (omega arith), ) in omega arith
+offset_bounds-slots-i c = let k : c.as_index-i.result < length c.args.slots.now = let a = c.args in let g = (fine_change _ _ (passed_zero _ _ c.check_change.ensures c.in_default.is)).good in omega ( arith, c.as_index-i.ensures, c.wrap_add-at.ensures, place-low (length a.slots.now) a.q.head.0 (omega arith) a.index (omega arith), ) in omega arith
 
 pub bounds-slots-i : goal.bounds-slots-i
-bounds-slots-i c = (let it : c.as_index-i.result < length c.args.slots.now = let a = c.args in let g = ((let it : Fine c.args.slots.now (rec_of c.args.q) = fine_change _ _ (let it : on_change (length c.args.slots.now) (rec_of c.args.q) 0 ≡ 0 = passed_zero _ _ c.check_change.ensures c.in_default.is in it) in it)).good in omega ( arith, c.as_index-i.ensures, c.wrap_add-at.ensures, place-low (length a.slots.now) a.q.head.0 (omega arith) a.index (omega arith), ) in it)
+bounds-slots-i c = (let it : c.as_index-i.result < length c.args.slots.now = let a = c.args in let g = (fine_change _ _ (passed_zero _ _ c.check_change.ensures c.in_default.is)).good in omega ( arith, c.as_index-i.ensures, c.wrap_add-at.ensures, place-low (length a.slots.now) a.q.head.0 (omega arith) a.index (omega arith), ) in it)
 
 pub remove_later-requires : goal.remove_later-requires
-remove_later-requires c = let g = ((let it : Fine c.args.slots.now (rec_of c.args.q) = fine_change _ _ (let it : on_change (length c.args.slots.now) (rec_of c.args.q) 0 ≡ 0 = passed_zero _ _ c.check_change.ensures c.in_default.is in it) in it)).good in let f = ((let it : Fine c.args.slots.now (rec_of c.args.q) = fine_change _ _ (let it : on_change (length c.args.slots.now) (rec_of c.args.q) 0 ≡ 0 = passed_zero _ _ c.check_change.ensures c.in_default.is in it) in it)).few in omega arith
+remove_later-requires c = let g = (fine_change _ _ (passed_zero _ _ c.check_change.ensures c.in_default.is)).good in let f = (fine_change _ _ (passed_zero _ _ c.check_change.ensures c.in_default.is)).few in omega arith
 
 pub returns-then-later-index : goal.returns-then-later-index
 returns-then-later-index c = removed_later _ _
-    (let it : on_change (length c.args.slots.now) (rec_of c.args.q) 0 ≡ 0 = passed_zero _ _ c.check_change.ensures c.in_default.is in it) _ _ _
+    (passed_zero _ _ c.check_change.ensures c.in_default.is) _ _ _
     c.if-index-len.false
     (c.as_index-i.ensures
     ∙ c.wrap_add-at.ensures) refl _ _
@@ -42,16 +42,16 @@ returns-then-later-index c = removed_later _ _
     c.remove_later.ensures
 
 pub wrap_add-next-requires : goal.wrap_add-next-requires
-wrap_add-next-requires c = let g = ((let it : Fine c.args.slots.now (rec_of c.args.q) = fine_change _ _ (let it : on_change (length c.args.slots.now) (rec_of c.args.q) 0 ≡ 0 = passed_zero _ _ c.check_change.ensures c.in_default.is in it) in it)).good in omega arith
+wrap_add-next-requires c = let g = (fine_change _ _ (passed_zero _ _ c.check_change.ensures c.in_default.is)).good in omega arith
 
 pub remove_earlier-requires : goal.remove_earlier-requires
 remove_earlier-requires c =
-    let g = ((let it : Fine c.args.slots.now (rec_of c.args.q) = fine_change _ _ (let it : on_change (length c.args.slots.now) (rec_of c.args.q) 0 ≡ 0 = passed_zero _ _ c.check_change.ensures c.in_default.is in it) in it)).good in let f = ((let it : Fine c.args.slots.now (rec_of c.args.q) = fine_change _ _ (let it : on_change (length c.args.slots.now) (rec_of c.args.q) 0 ≡ 0 = passed_zero _ _ c.check_change.ensures c.in_default.is in it) in it)).few
+    let g = (fine_change _ _ (passed_zero _ _ c.check_change.ensures c.in_default.is)).good in let f = (fine_change _ _ (passed_zero _ _ c.check_change.ensures c.in_default.is)).few
     in record { head_in_bounds = omega arith; next_value = c.wrap_add-next.ensures }
 
 pub returns : goal.returns
 returns c = removed_earlier _ _
-    (let it : on_change (length c.args.slots.now) (rec_of c.args.q) 0 ≡ 0 = passed_zero _ _ c.check_change.ensures c.in_default.is in it) _ _ _
+    (passed_zero _ _ c.check_change.ensures c.in_default.is) _ _ _
     c.if-index-len.false
     (c.as_index-i.ensures
     ∙ c.wrap_add-at.ensures) refl _ _ _

@@ -17,22 +17,22 @@ returns-in-Refused c = queue-refuses _ _ _ _ _ c.check_change.ensures c.in-Refus
 
 pub returns-in-Refused-check : goal.returns-in-Refused-check
 unfolding on_portion
-returns-in-Refused-check c = queue-passes _ _ _ _ (let it : on_change c.args.cap (rec_of c.args.q) 0 ≡ 0 = passed_zero _ _ c.check_change.ensures c.in_default.is in it)
+returns-in-Refused-check c = queue-passes _ _ _ _ (passed_zero _ _ c.check_change.ensures c.in_default.is)
     (new_refuses _ _ _ _ _ c.check.ensures c.in-Refused-check.is)
 
 pub overflow_sub-target_cap : goal.overflow_sub-target_cap
-overflow_sub-target_cap c = let g = (queue_ok _ _ 0 (let it : on_queue c.args.target_cap (rec_of c.args.other) 0 ≡ 0 = passed_zero _ _ c.check.ensures c.in_default-check.is in it)).0 in omega arith
+overflow_sub-target_cap c = let g = (queue_ok _ _ 0 (passed_zero _ _ c.check.ensures c.in_default-check.is)).0 in omega arith
 
 pub returns-then-portion_of-target_cap : goal.returns-then-portion_of-target_cap
 unfolding on_portion
-returns-then-portion_of-target_cap c = queue-passes _ _ _ _ (let it : on_change c.args.cap (rec_of c.args.q) 0 ≡ 0 = passed_zero _ _ c.check_change.ensures c.in_default.is in it)
-    (new_passes _ _ _ _ (let it : on_queue c.args.target_cap (rec_of c.args.other) 0 ≡ 0 = passed_zero _ _ c.check.ensures c.in_default-check.is in it)
+returns-then-portion_of-target_cap c = queue-passes _ _ _ _ (passed_zero _ _ c.check_change.ensures c.in_default.is)
+    (new_passes _ _ _ _ (passed_zero _ _ c.check.ensures c.in_default-check.is)
     (room-refuses _ _ (omega (arith, c.portion_of.ensures))))
 
 pub returns : goal.returns
 unfolding on_portion
 returns c =
-    let g = (queue_ok _ _ 0 (let it : on_queue c.args.target_cap (rec_of c.args.other) 0 ≡ 0 = passed_zero _ _ c.check.ensures c.in_default-check.is in it)).0 in
-    queue-passes _ _ _ _ (let it : on_change c.args.cap (rec_of c.args.q) 0 ≡ 0 = passed_zero _ _ c.check_change.ensures c.in_default.is in it)
-    (new_passes _ _ _ _ (let it : on_queue c.args.target_cap (rec_of c.args.other) 0 ≡ 0 = passed_zero _ _ c.check.ensures c.in_default-check.is in it)
+    let g = (queue_ok _ _ 0 (passed_zero _ _ c.check.ensures c.in_default-check.is)).0 in
+    queue-passes _ _ _ _ (passed_zero _ _ c.check_change.ensures c.in_default.is)
+    (new_passes _ _ _ _ (passed_zero _ _ c.check.ensures c.in_default-check.is)
     (room-passes _ _ (omega (arith, c.portion_of.ensures))))

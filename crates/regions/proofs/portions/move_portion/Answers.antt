@@ -20,29 +20,29 @@ overflow_sub-left c = omega (arith, c.portion_of-portion.ensures)
 
 pub wrap_add-first-requires : goal.wrap_add-first-requires
 wrap_add-first-requires c =
-    let k = ((let it : Portion c.args.slots.now (rec_of c.args.q) c.args.target.now (rec_of c.args.other) c.args.n = portion _ _ _ _ _ (let it : on_portion (length c.args.slots.now) (rec_of c.args.q) (length c.args.target.now) (rec_of c.args.other) c.args.n ≡ 0 = passed_zero _ _ c.check_portion.ensures c.in_default.is in it) in it)).ours in
+    let k = (portion _ _ _ _ _ (passed_zero _ _ c.check_portion.ensures c.in_default.is)).ours in
     let g = k.good in
     omega (arith, c.portion_of-portion.ensures)
 
 pub wrap_add-behind-requires : goal.wrap_add-behind-requires
-wrap_add-behind-requires c = let k = ((let it : Portion c.args.slots.now (rec_of c.args.q) c.args.target.now (rec_of c.args.other) c.args.n = portion _ _ _ _ _ (let it : on_portion (length c.args.slots.now) (rec_of c.args.q) (length c.args.target.now) (rec_of c.args.other) c.args.n ≡ 0 = passed_zero _ _ c.check_portion.ensures c.in_default.is in it) in it)).theirs in let g = k.good in omega arith
+wrap_add-behind-requires c = let k = (portion _ _ _ _ _ (passed_zero _ _ c.check_portion.ensures c.in_default.is)).theirs in let g = k.good in omega arith
 
 pub copy_range-requires : goal.copy_range-requires
 copy_range-requires c =
-    let k : Portion c.args.slots.now (rec_of c.args.q) c.args.target.now (rec_of c.args.other) c.args.n = portion _ _ _ _ _ (let it : on_portion (length c.args.slots.now) (rec_of c.args.q) (length c.args.target.now) (rec_of c.args.other) c.args.n ≡ 0 = passed_zero _ _ c.check_portion.ensures c.in_default.is in it) in
+    let k : Portion c.args.slots.now (rec_of c.args.q) c.args.target.now (rec_of c.args.other) c.args.n = portion _ _ _ _ _ (passed_zero _ _ c.check_portion.ensures c.in_default.is) in
     let g = k.theirs.good in
     let few = c.portion_of-portion.ensures in
     let behind = c.wrap_add-behind.ensures in record { q_value = (k.first, omega arith); dst_in_bounds = (omega (arith, place_good _ _ g.placed _ g.fits), omega arith, k.theirs.few) }
 
 pub overflow_add-theirs : goal.overflow_add-theirs
 overflow_add-theirs c =
-    let k : Portion c.args.slots.now (rec_of c.args.q) c.args.target.now (rec_of c.args.other) c.args.n = portion _ _ _ _ _ (let it : on_portion (length c.args.slots.now) (rec_of c.args.q) (length c.args.target.now) (rec_of c.args.other) c.args.n ≡ 0 = passed_zero _ _ c.check_portion.ensures c.in_default.is in it) in
+    let k : Portion c.args.slots.now (rec_of c.args.q) c.args.target.now (rec_of c.args.other) c.args.n = portion _ _ _ _ _ (passed_zero _ _ c.check_portion.ensures c.in_default.is) in
     let few = k.theirs.few in
     omega (arith, c.portion_of-portion.ensures)
 
 pub returns : goal.returns
 returns c =
-    portion-done _ _ _ _ _ (let it : on_portion (length c.args.slots.now) (rec_of c.args.q) (length c.args.target.now) (rec_of c.args.other) c.args.n ≡ 0 = passed_zero _ _ c.check_portion.ensures c.in_default.is in it) _ _ _ _ _ _ _ _ c.portion_of-portion.ensures
+    portion-done _ _ _ _ _ (passed_zero _ _ c.check_portion.ensures c.in_default.is) _ _ _ _ _ _ _ _ c.portion_of-portion.ensures
     c.wrap_add-behind.ensures c.copy_range.ensures
     c.wrap_add-first.ensures c.head_over.ensures
     c.stepped.ensures c.stepped-grown.ensures c.with_mark.ensures

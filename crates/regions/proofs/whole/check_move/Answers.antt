@@ -15,15 +15,15 @@ returns-in-Refused c = queue-refuses _ _ _ _ _ c.check_change.ensures c.in-Refus
 
 pub returns-then-target_cap-most_slots : goal.returns-then-target_cap-most_slots
 unfolding on_moving
-returns-then-target_cap-most_slots c = queue-passes _ _ _ _ (let it : on_change c.args.cap (rec_of c.args.q) 0 ≡ 0 = passed_zero _ _ c.check_change.ensures c.in_default.is in it)
+returns-then-target_cap-most_slots c = queue-passes _ _ _ _ (passed_zero _ _ c.check_change.ensures c.in_default.is)
     (slots_refuse _ _ (omega (arith, c.most_slots.ensures)))
 
 pub returns-then-q-target_cap : goal.returns-then-q-target_cap
 unfolding on_moving
-returns-then-q-target_cap c = queue-passes _ _ _ _ (let it : on_change c.args.cap (rec_of c.args.q) 0 ≡ 0 = passed_zero _ _ c.check_change.ensures c.in_default.is in it)
+returns-then-q-target_cap c = queue-passes _ _ _ _ (passed_zero _ _ c.check_change.ensures c.in_default.is)
     (slots_pass _ _ _ (omega (arith, c.most_slots.ensures)) (room-refuses _ _ (omega arith)))
 
 pub returns : goal.returns
 unfolding on_moving
-returns c = queue-passes _ _ _ _ (let it : on_change c.args.cap (rec_of c.args.q) 0 ≡ 0 = passed_zero _ _ c.check_change.ensures c.in_default.is in it)
+returns c = queue-passes _ _ _ _ (passed_zero _ _ c.check_change.ensures c.in_default.is)
     (slots_pass _ _ _ (omega (arith, c.most_slots.ensures)) (room-passes _ _ (omega arith)))

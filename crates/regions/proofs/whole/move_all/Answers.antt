@@ -15,10 +15,10 @@ returns-in-Refused c = move_refused _ _ _ _ _ c.check_move.ensures c.in-Refused.
 
 pub copy_range-requires : goal.copy_range-requires
 copy_range-requires c =
-    let k : Whole c.args.slots.now (rec_of c.args.q) c.args.target.now = whole _ _ _ (let it : on_moving (length c.args.slots.now) (rec_of c.args.q) (length c.args.target.now) ≡ 0 = passed_zero _ _ c.check_move.ensures c.in_default.is in it) in
+    let k : Whole c.args.slots.now (rec_of c.args.q) c.args.target.now = whole _ _ _ (passed_zero _ _ c.check_move.ensures c.in_default.is) in
     record { q_value = (k.first, omega arith); dst_in_bounds = (omega (arith, c.zero-first.ensures), k.fits, k.few) }
 
 pub returns : goal.returns
 returns c =
-    move_done _ _ _ (let it : on_moving (length c.args.slots.now) (rec_of c.args.q) (length c.args.target.now) ≡ 0 = passed_zero _ _ c.check_move.ensures c.in_default.is in it) _ _ _ _ c.zero-first.ensures
+    move_done _ _ _ (passed_zero _ _ c.check_move.ensures c.in_default.is) _ _ _ _ c.zero-first.ensures
     c.copy_range.ensures c.stepped.ensures c.new_record.ensures
