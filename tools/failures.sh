@@ -311,11 +311,10 @@ fi
 
 # Runs the program itself, behind the calls above, with the settings given.
 behind() {
-    env "$@" LD_PRELOAD="$work/calls.so" "$tools/lib/ld-linux-x86-64.so.2" --library-path "$tools/lib" "$program" \
-        status=3 <"$whole" >"$work/out" 2>"$work/err" 3>"$work/status"
+    env "$@" LD_PRELOAD="$work/calls.so" "$program" status=3 <"$whole" >"$work/out" 2>"$work/err" 3>"$work/status"
     status=$(cat "$work/status")
 }
-if [ -z "$emulator" ] && command -v cc >/dev/null && cc -shared -fPIC -o "$work/calls.so" "$work/calls.c"; then
+if command -v cc >/dev/null && cc -shared -fPIC -o "$work/calls.so" "$work/calls.c"; then
     behind READ=1 ERROR=4
     expect 'an interrupted read' 0 '' "$whole_lines"
     behind WRITE=1 ERROR=4
@@ -332,7 +331,7 @@ if [ -z "$emulator" ] && command -v cc >/dev/null && cc -shared -fPIC -o "$work/
     expect 'a write that fails in the middle' 4 'standard output could not be written: Input/output error' '0 0 0 1
 '
 else
-    left_out 'interrupted and failing calls: no C compiler, or another processor'
+    left_out 'interrupted and failing calls: no C compiler'
 fi
 
 echo "$passed passed, $failed failed"

@@ -12,41 +12,38 @@ give_up() {
     exit "$status"
 }
 
-# Finds the kit. The program is for x86-64: on Arm the kit's emulator runs it.
+# The kit proves and compiles on x86-64, and for it.
 find_kit() {
-    rt=$(command -v rt) ||
+    command -v rt >/dev/null ||
         give_up 2 "the Rattle kit is missing: put its bin/ on PATH, so that 'rt version' answers" \
             '(docs/DECISIONS.md says which kit)'
-    while [ -L "$rt" ]; do
-        link=$(readlink "$rt")
-        case $link in /*) rt=$link ;; *) rt=$(dirname "$rt")/$link ;; esac
-    done
-    kit=${RATTLE_HOME:-$(cd "$(dirname "$rt")/.." && pwd -P)}
-    tools=$kit/on/$(uname -m)/toolchain
-    [ -d "$tools" ] || give_up 2 "the kit has no tools for $(uname -m): it runs on x86-64 and on Arm (aarch64)"
-    emulator=$tools/bin/qemu-x86_64
-    [ -x "$emulator" ] || emulator=
+    [ "$(uname -m)" = x86_64 ] || give_up 2 "the kit has no tools for $(uname -m): it runs on x86-64 alone"
 }
 
 # Whether the program is there, and no source is newer.
 is_built() {
-    [ -x "$program" ] && [ -z "$(find "$here/crates" "$here/crates.txt" -newer "$program" -type f | head -n 1)" ]
+    [ -x "$program" ] && [ -z "$(find "$here/crates" "$here/crates.txt" -name out -prune -o \
+        -type f -newer "$program" -print | head -n 1)" ]
 }
 
+# 'rt run' proves and builds the program, says that it runs it, and runs it, here on no input.
 build() {
     find_kit
-    program=$here/target/bin/$name
+    crate=$here/crates/$name
+    program=$crate/out/$name
     is_built && return
     echo "$name: proving and building the program first, which takes some minutes; a line for each crate:" >&2
     log=$(mktemp)
-    (cd "$here" && rt check "$name") </dev/null 2>&1 | tee "$log" | sed -n "s/^rt: \(.* proved.*\)/$name: \1/p" >&2
-    if grep -q '^rt: ok' "$log" && [ -x "$program" ]; then
+    (cd "$crate" && rt run 2>&1 >/dev/null) </dev/null 2>&1 | tee "$log" |
+        sed -n "s/^rt: chose .* for \([a-z0-9_]*\)\$/$name: proving \1/p" >&2
+    if grep -q "^rt: running out/$name" "$log" && [ -x "$program" ]; then
         rm -f "$log"
         touch "$program"
         return
     fi
     tail -n 20 "$log" >&2
-    give_up 2 "the program could not be built: above is the end of what 'rt check $name' said; the whole is in $log"
+    give_up 2 "the program could not be built: above is the end of what 'rt run' said in crates/$name;" \
+        "the whole is in $log"
 }
 
 # The program writes its status to descriptor 3, a pipe that the shell reads here; its standard output is ours (4). It
@@ -57,8 +54,7 @@ run() {
     {
         status=$(
             trap '' PIPE
-            exec ${emulator:+"$emulator"} "$tools/lib/ld-linux-x86-64.so.2" --library-path "$tools/lib" \
-                "$program" status=3 3>&1 >&4 4>&-
+            exec "$program" status=3 3>&1 >&4 4>&-
         ) || ended=$?
     } 4>&1
     case $status in

@@ -1,4 +1,6 @@
 // The answer of a call in one form, whatever its enum: what programs, journals and sequences of calls go by.
+#![tactic(auto)]
+
 mod drains; // drains.rt: the calls of a drain
 mod looks; // looks.rt: the calls that only look
 mod pairs; // pairs.rt: calls on either of two queues, or on both

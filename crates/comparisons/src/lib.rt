@@ -1,4 +1,6 @@
 // What speaks of the lists only: contains, equality and lexicographic order.
+#![tactic(auto)]
+
 mod in_runs; // in_runs.rt: the same of lists in two runs, of which no queue is known
 
 ghost use Rattle.std.specs.Prelude.{◌≡◌};

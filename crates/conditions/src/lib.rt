@@ -1,4 +1,6 @@
 // A test of an element, in place of the Rust's closures.
+#![tactic(auto)]
+
 ghost use Rattle.std.specs.Prelude.{◌≡◌};
 ghost use Rattle.rules.specs.Conditions.{meets};
 ghost use Rattle.conditions.specs.Tests.{test_of};

@@ -1,4 +1,6 @@
 // What crosses from one queue's slots into another's: a copy of a range of elements.
+#![tactic(auto)]
+
 ghost use Rattle.std.specs.Prelude.{◌≡◌, ◌+◌, ◌-◌, ◌≤◌, ◌<◌, length, take, drop};
 ghost use Rattle.rules.specs.Records.{held};
 ghost use Rattle.rules.specs.Refusals.{on_queue, most_slots};

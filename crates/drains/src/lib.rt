@@ -1,4 +1,6 @@
 // Drain: a range of a queue is handed over element by element, from either end; then the hole that it leaves is closed.
+#![tactic(auto)]
+
 ghost use Rattle.std.specs.Prelude.{◌≡◌};
 ghost use Rattle.rules.specs.Outcome.{told, do_open, do_next, do_next_back, do_close};
 ghost use Rattle.queue.specs.Answers.{rec_of};

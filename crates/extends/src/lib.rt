@@ -1,4 +1,6 @@
 // A lent slice behind a queue's elements or in front of them, and copies of one number behind them.
+#![tactic(auto)]
+
 ghost use Rattle.std.specs.Prelude.{◌≡◌, ◌+◌, ◌≤◌, ◌<◌};
 ghost use Rattle.rules.specs.Joins.{extend_with, prepend, extend_front, resize};
 ghost use Rattle.rules.specs.Outcome.{told, do_rule};

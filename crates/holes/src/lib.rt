@@ -1,4 +1,6 @@
 // How the hole between a queue's first and last elements is closed: the shorter side moves.
+#![tactic(auto)]
+
 ghost use Rattle.std.specs.Prelude.{◌≡◌, ◌+◌, ◌-◌, ◌≤◌, ◌<◌, length};
 ghost use Rattle.rules.specs.Places.{place};
 ghost use Rattle.rules.specs.Refusals.{most_slots};

@@ -1,4 +1,6 @@
 // Saved images: a queue's elements as bytes, and bytes as a queue's elements.
+#![tactic(auto)]
+
 ghost use Rattle.std.specs.Prelude.{◌≡◌, ◌∷◌, [], ◌++◌, ◌+◌, ◌*◌, ◌-◌, ◌≤◌, ◌<◌, length, take, drop};
 ghost use Rattle.std.proofs.lemmas.List.Edits.{sets};
 ghost use Rattle.rules.specs.Images.{most_short, two_bytes, four_bytes, big_endian, version, all_bytes, laid_out, fours};

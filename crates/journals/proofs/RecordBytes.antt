@@ -10,7 +10,7 @@ use borrow.Author.Tests.{ne_eqb, eq-eqb, eqb-true, lt-ltb, le-ltb}
 use lib.Dec.{eqb, eqb→eq}
 use lib.ListN.{length, take, drop, get_or}
 use Rattle.rules.proofs.Choices.{cases, neqb→ne}
-use Rattle.rules.specs.Images.{big_endian, version}
+use Rattle.rules.specs.Images.{big_endian}
 use Rattle.rules.specs.Journals.{Entry, do_remove, entry_of, length_of, some_length, length_at, word_at, record_at, taken, broken, cut, ended}
 use Rattle.rules.specs.Choices.{whether}
 

@@ -1,9 +1,9 @@
 -- Bytes put one behind the other. Assumes nothing.
 use mathlib.Core.List.{List, [], ◌∷◌, ◌++◌}
-use mathlib.Core.Path.{◌≡◌, refl, sym, ◌∙◌, ap, subst}
+use mathlib.Core.Path.{◌≡◌, refl, ◌∙◌, ap, subst}
 use Prim.Native.Nat.{ℕ, ◌+◌}
 use native.Mathlib.Omega.{arith}
-use lib.ListN.{length, set, length-append}
+use lib.ListN.{set, length-append}
 use lib.Seq.{sets}
 use Rattle.images.proofs.Bytes.{sets_append}
 use Rattle.lines.specs.Puts.{Puts}

@@ -1,4 +1,6 @@
 // The lines that the replay program writes.
+#![tactic(auto)]
+
 mod decimals; // decimals.rt: numbers as decimal digits
 mod lines; // lines.rt: the lines, and the words of the last one
 

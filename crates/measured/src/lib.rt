@@ -1,5 +1,7 @@
 // The straight copy alone, for the benchmark: what a call in the middle takes beside it is the call's own. It stands in
 // an archive of the benchmark's (sh tools/native.sh . measured), and not in that of the calls.
+#![tactic(auto)]
+
 ghost use Rattle.std.specs.Prelude.{◌≡◌, ◌+◌, ◌≤◌, ◌<◌, length};
 ghost use Rattle.rules.specs.Refusals.{most_slots};
 ghost use Rattle.measured.specs.Copies.{copied_times, copy_told};

@@ -2,7 +2,6 @@
 use mathlib.Core.Bool.{Bool, true, false, ◌||◌}
 use mathlib.Core.List.{append_assoc, append-nil}
 use mathlib.Core.Path.{◌≡◌, refl}
-use Prim.Native.Nat.{◌+◌}
 use native.Mathlib.Omega.{arith}
 use Rattle.rules.specs.WholeReplay.{Play, Part, ◌then◌, stay}
 

@@ -1,13 +1,12 @@
 -- What a record of a journal is, is told by its own bytes: where it ends, that more bytes behind
 -- it change nothing, and that it does not matter how many stand before it. Assumes nothing.
-use mathlib.Core.Bool.{not, true, false, Bool}
+use mathlib.Core.Bool.{true, false}
 use mathlib.Core.List.{List, ◌++◌}
-use mathlib.Core.Logic.{◌≢◌}
 use mathlib.Core.Path.{◌≡◌, refl, sym, ◌∙◌, ap, subst}
 use Prim.Native.Nat.{ℕ, ◌+◌, ◌-◌, ◌≤◌, ◌<◌}
 use native.Mathlib.Omega.{arith}
 use borrow.Author.Tests.{ne_eqb}
-use lib.Dec.{T, eqb, ltb, eqb→eq, nltb→le}
+use lib.Dec.{eqb, ltb, eqb→eq, nltb→le}
 use lib.ListN.{length, take, drop, get_or, length-append, length-drop, get_or-append}
 use lib.Seq.{take-append-le, drop-append-le, drop-drop, get_or-drop}
 use Rattle.journals.proofs.RecordBytes.{other_none, the_longest, wrong_length, wrong_version, wrong_operation, takes}

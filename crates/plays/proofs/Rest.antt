@@ -1,9 +1,9 @@
 -- What is still to be done of a replay, and that each step leaves it the same: what was
 -- written, and then the rest. Assumes nothing.
-use mathlib.Core.Bool.{Bool, true, false}
+use mathlib.Core.Bool.{Bool}
 use mathlib.Core.List.{List, [], ◌∷◌, ◌++◌, map, append_assoc, append-nil}
 use mathlib.Core.Option.{Option, none, some}
-use mathlib.Core.Path.{◌≡◌, refl, sym, ◌∙◌, ap, subst}
+use mathlib.Core.Path.{◌≡◌, refl, sym, ◌∙◌, ap}
 use Prim.Native.Nat.{ℕ, zero, suc, ◌+◌, ◌-◌, ◌≤◌}
 use native.Mathlib.Omega.{arith}
 use lib.Dec.{T, ltb}
@@ -14,7 +14,7 @@ use Rattle.plays.proofs.Parts.{then_assoc, stay_then}
 use Rattle.plays.proofs.Records.{Ends, record_ends, Settles, settles}
 use Rattle.plays.proofs.Whole.{from, enough, shifted, replays_here}
 use Rattle.plays.specs.Pieces.{begin_last, do_got, word_of, next, step, steps, longest_line, advanced}
-use Rattle.rules.specs.WholeReplay.{Stage, in_records, in_elements, over, Play, Part, ◌then◌, stay, break_off, ending, play_record, last_line, replayed, elements, end_line, end_word}
+use Rattle.rules.specs.WholeReplay.{Stage, in_records, in_elements, over, Play, Part, ◌then◌, stay, break_off, ending, play_record, last_line, replayed, elements, end_line}
 use Rattle.rules.proofs.Choices.{by_test}
 use Rattle.rules.specs.Journals.{Entry, Got, taken, broken, cut, ended, record_at}
 use Rattle.rules.specs.Replays.{decimal, line_of, newline, space, spaced}

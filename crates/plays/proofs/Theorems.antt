@@ -1,7 +1,7 @@
 -- THE LINES OF A JOURNAL DO NOT DEPEND ON ITS PIECES: calls that come to the last line's end have together done
 -- what the rules' replay of the whole journal does, whatever its pieces and the buffers were. Assumes nothing.
 use mathlib.Core.Bool.{true, false}
-use mathlib.Core.List.{List, [], ◌∷◌, ◌++◌, append_assoc}
+use mathlib.Core.List.{List, [], ◌++◌, append_assoc}
 use mathlib.Core.Logic.{◌≢◌}
 use mathlib.Core.Path.{◌≡◌, refl, sym, ◌∙◌, ap, subst}
 use Prim.Native.Nat.{ℕ, ◌≤◌}

@@ -8,7 +8,7 @@ use Rattle.queue.proofs.Checks.{failed_number}
 use Rattle.queue.proofs.Numbers.{some_number}
 use Rattle.queue.specs.Answers.{number_of, number_in}
 use Rattle.rules.proofs.Choices.{unless-stop}
-use Rattle.rules.specs.Looks.{Look, sees, refuses, looked, look_at}
+use Rattle.rules.specs.Looks.{sees, refuses, looked, look_at}
 use Rattle.rules.specs.Records.{Rec, held}
 use Rattle.rules.specs.Refusals.{on_queue}
 use Rattle.rules.specs.Choices.{unless}

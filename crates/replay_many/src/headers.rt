@@ -20,7 +20,7 @@ fn ended(have: usize) -> Header {
 }
 
 // Reads the length of the next journal.
-pub fn next_header(program: &[u8]) -> Header {
+pub fn next_header(rt: HostRuntime, program: &[u8]) -> Header {
     let mut bytes = [0u8; 4];
     let view: &mut [u8] = &mut bytes;
     let mut have: usize = 0;
@@ -29,7 +29,7 @@ pub fn next_header(program: &[u8]) -> Header {
         if have == 4 {
             break;
         }
-        match streams::read_input(program, &mut view[have..]) {
+        match streams::read_input(rt, program, &mut view[have..]) {
             Got::Bytes(n) => {
                 have += n;
             }

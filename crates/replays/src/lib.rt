@@ -1,5 +1,7 @@
 // Runs a journal from standard input on a queue in lent slots, and
 // writes what each record gave; last, the elements that are left.
+#![tactic(auto)]
+
 mod reading; // reading.rt: what is read, through a buffer
 mod running; // running.rt: a journal, from its first byte to its last line
 mod telling; // telling.rt: what is said of a journal that breaks

@@ -26,12 +26,12 @@ fn reach(size: usize, have: usize, most: u64) -> usize
 }
 
 // Reads once, at most `most` bytes, into the buffer behind its first `have` bytes.
-pub fn more(program: &[u8], input: &mut [u8], have: usize, most: u64) -> Got
+pub fn more(rt: HostRuntime, program: &[u8], input: &mut [u8], have: usize, most: u64) -> Got
     requires { have ≤ length input.old }
     ensures { (have + bytes_in result ≤ length input.old) × (bytes_in result ≤ most) }
 {
     let end = reach(input.len(), have, most);
-    streams::read_input(program, &mut input[have..end])
+    streams::read_input(rt, program, &mut input[have..end])
 }
 
 // Moves what stands from `from` to before `end` to the front.
@@ -46,7 +46,7 @@ pub fn shift(input: &mut [u8], from: usize, end: usize)
 }
 
 // Reads that many bytes and throws them away. The turns are counted down, as in `running`.
-pub fn pass_over(program: &[u8], input: &mut [u8], bytes: u64) -> Passed {
+pub fn pass_over(rt: HostRuntime, program: &[u8], input: &mut [u8], bytes: u64) -> Passed {
     let mut left = bytes;
     let mut turns = u64::MAX;
     while turns > 0 {
@@ -54,7 +54,7 @@ pub fn pass_over(program: &[u8], input: &mut [u8], bytes: u64) -> Passed {
             return Passed::All;
         }
         turns -= 1;
-        match more(program, input, 0, left) {
+        match more(rt, program, input, 0, left) {
             Got::Bytes(n) => {
                 left -= n as u64;
             }

@@ -46,7 +46,7 @@ struct Run {
 fn broken_at(breaks: bool, before: Broken, records: u64, byte: u64) -> Broken {
     if breaks {
         return Broken::At {
-            record: std::num::wrapping_add_u64(records, 1),
+            record: records.wrapping_add(1),
             byte,
         };
     }
@@ -86,6 +86,7 @@ struct Played {
 // Plays the first `have` bytes that were read, as far as the output's buffer has room, writes the lines, and moves the
 // bytes that are left to the front.
 fn play_piece(
+    rt: HostRuntime,
     program: &[u8],
     slots: &mut [u32],
     input: &mut [u8],
@@ -99,13 +100,14 @@ fn play_piece(
 {
     let advanced = plays::advance(slots, playing, &input[0..have], last, out);
     let written = advanced.written;
-    let open = streams::write_output(program, &out[0..written]);
+    let open = streams::write_output(rt, program, &out[0..written]);
     shift(input, advanced.used, have);
     Played { advanced, open }
 }
 
 // Plays what was read, and says where the replay then stands.
 fn play_on(
+    rt: HostRuntime,
     program: &[u8],
     slots: &mut [u32],
     input: &mut [u8],
@@ -118,11 +120,11 @@ fn play_on(
     ensures { (result.have ≤ run.have) × (result.unread ≡ run.unread) }
 {
     let before = run.playing;
-    let played = play_piece(program, slots, input, out, run.have, before, last);
+    let played = play_piece(rt, program, slots, input, out, run.have, before, last);
     let advanced = played.advanced;
     let have = run.have - advanced.used;
     // A record has bytes of its own, so a u64 can count them.
-    let records = std::num::wrapping_add_u64(run.records, advanced.records as u64);
+    let records = run.records.wrapping_add(advanced.records as u64);
     let known = run.broken;
     let broken = broken_at(
         advanced.broken,
@@ -170,11 +172,11 @@ fn filled(run: Run, n: usize) -> Run
 }
 
 // Reads on, behind the bytes that wait.
-fn read_on(program: &[u8], input: &mut [u8], run: Run) -> Run
+fn read_on(rt: HostRuntime, program: &[u8], input: &mut [u8], run: Run) -> Run
     requires { (run.have ≤ length input.old) × (run.have + run.unread < 2 ^ 64) }
     ensures { (result.have ≤ length input.old) × (result.have + result.unread ≡ run.have + run.unread) }
 {
-    match more(program, input, run.have, run.unread) {
+    match more(rt, program, input, run.have, run.unread) {
         Got::Bytes(n) => filled(run, n),
         Got::End => going_to(run, Going::Play { last: true }),
         Got::Failed(_) => going_to(run, Going::End(Status::ReadFailed)),
@@ -210,6 +212,7 @@ fn ended(run: Run, status: Status) -> Replayed
 // Reads the journal in pieces, at most `limit` bytes, plays its records, and writes the lines of each piece before it
 // reads the next. A proved loop has to end, and nothing says that the input does: the turns are counted down.
 fn run_on(
+    rt: HostRuntime,
     program: &[u8],
     slots: &mut [u32],
     input: &mut [u8],
@@ -225,10 +228,10 @@ fn run_on(
         let going = run.going;
         match going {
             Going::Play { last } => {
-                run = play_on(program, slots, input, out, run, last, limit);
+                run = play_on(rt, program, slots, input, out, run, last, limit);
             }
             Going::Read => {
-                run = read_on(program, input, run);
+                run = read_on(rt, program, input, run);
             }
             Going::End(status) => return ended(run, status),
         }
@@ -240,6 +243,7 @@ fn run_on(
 // each and the last line. A read or a write that fails ends it, is said under the program's name, and leaves the last
 // line unwritten.
 pub fn replay(
+    rt: HostRuntime,
     program: &[u8],
     slots: &mut [u32; SLOTS],
     input: &mut [u8; BUFFER],
@@ -248,5 +252,5 @@ pub fn replay(
 ) -> Replayed
     ensures { result.unread ≤ limit }
 {
-    run_on(program, slots, input, out, limit)
+    run_on(rt, program, slots, input, out, limit)
 }

@@ -5,6 +5,8 @@
 // larger struct would come back through memory, as two words that are loaded as one, and wait there. A refused call
 // stores no word. A lent slice crosses as a pointer and a length, and a test as a kind and a number. What a caller must
 // keep to is said in include/scorebucket.h.
+#![tactic(auto)]
+
 mod changes; // changes.rt: calls that change a list or a record
 mod kinds; // kinds.rt: a test by its kind
 mod looks; // looks.rt: calls that only look

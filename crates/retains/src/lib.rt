@@ -1,5 +1,7 @@
 // `retain`: the elements that meet a test are moved down over those that do not. None
 // is swapped, so a slot that holds no element after the call keeps its old value.
+#![tactic(auto)]
+
 ghost use Rattle.std.specs.Prelude.{◌≡◌, ◌≤◌, ◌<◌, ◌-◌, ◌+◌, length, take};
 ghost use Rattle.rules.specs.Conditions.{meets, those};
 ghost use Rattle.rules.specs.Middle.{retain};

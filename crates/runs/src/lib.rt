@@ -1,4 +1,6 @@
 // The two runs of a range of positions: their places, and each run as that part of the lent slots itself.
+#![tactic(auto)]
+
 ghost use Rattle.std.specs.Prelude.{◌≡◌};
 ghost use Rattle.rules.specs.Runs.{look_runs, runs_or, front_run, back_run};
 ghost use Rattle.queue.specs.Answers.{rec_of};

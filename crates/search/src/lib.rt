@@ -1,4 +1,6 @@
 // Search by halving, in one of the two runs.
+#![tactic(auto)]
+
 mod in_runs; // in_runs.rt: the search of a list in two runs, of which no queue is known
 
 ghost use Rattle.std.specs.Prelude.{◌≡◌};

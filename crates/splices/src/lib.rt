@@ -1,4 +1,6 @@
 // Splice: elements of a lent slice replace a range of a queue.
+#![tactic(auto)]
+
 ghost use Rattle.std.specs.Prelude.{◌≡◌, ◌+◌, ◌-◌, ◌≤◌, length};
 ghost use Rattle.rules.specs.Outcome.{told, do_rule};
 ghost use Rattle.rules.specs.Places.{place};

@@ -1,5 +1,5 @@
 -- What an answer of read or write means, with what errno was behind it. Assumes nothing.
-use Rattle.std.specs.Prelude.{ℕ, zero, suc, Bool, true, false, cond, eqb, ℤ, pos, negsuc}
+use Rattle.std.specs.Prelude.{ℕ, zero, suc, Bool, true, false, cond, eqb, ℤ, pos, negsuc, Option, None, Some}
 use Rattle.streams.specs.declared.judging.Outcome.{Outcome}
 use Rattle.streams.specs.declared.judging.Outcome.TheVariants.{Moved, Nothing, Again, Failed}
 use Rattle.streams.specs.declared.moving.Got.{Got}
@@ -19,6 +19,11 @@ passing (negsuc n) = false
 abbrev pub outcome : ℤ → ℤ → Outcome
 outcome (pos n) error = moving n
 outcome (negsuc n) error = cond (passing error) Again (Failed error)
+
+-- the number of an error of std, which the system's errors have, errno; for one without EIO, 5
+abbrev pub number_of : Option ℤ → ℤ
+number_of (Some number) = number
+number_of None = pos 5
 
 -- the bytes that moved
 abbrev pub bytes_of : Outcome → ℕ

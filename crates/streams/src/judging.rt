@@ -1,6 +1,9 @@
 // What an answer of read or write means.
-ghost use Rattle.std.specs.Prelude.{true, cond, ◌≡◌, eqb};
+ghost use Rattle.std.specs.Prelude.{true, cond, ◌≡◌, eqb, negsuc, IfOk, IfErr};
+ghost use Rattle.std.specs.IoError.{raw_os_error};
 ghost use Rattle.streams.specs.Outcomes as rules;
+
+use std::io;
 
 // What one call of read or write came to: so many bytes, at least one; none; a signal came between or nothing is ready
 // yet, and the call is to be made again; it failed, and errno says why.
@@ -54,3 +57,27 @@ pub fn judged(got: isize, error: i32) -> Outcome
     }
     moving(got as usize)
 }
+
+// The number of an error: errno, or for an error that is not the system's EIO.
+fn number_of(error: io::Error) -> i32
+    ensures { result ≡ rules.number_of (raw_os_error error) }
+{
+    match error.raw_os_error() {
+        Some(number) => number,
+        None => EIO,
+    }
+}
+
+// What a call of read or write came to, as std answers it: in place of an answer below 0 it gives an error.
+pub fn came_to(answer: io::Result<usize>) -> Outcome
+    ensures ok { IfOk answer (λ bytes. result ≡ rules.moving bytes) }
+    ensures err { IfErr answer (λ error. result ≡ rules.outcome (negsuc 0) (rules.number_of (raw_os_error error))) }
+{
+    match answer {
+        Ok(bytes) => moving(bytes),
+        Err(error) => judged(-1, number_of(error)),
+    }
+}
+
+// The number of an error of input or output, as Linux has it.
+const EIO: i32 = 5;

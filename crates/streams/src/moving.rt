@@ -3,9 +3,9 @@
 ghost use Rattle.std.specs.Prelude.{◌≤◌, length};
 ghost use Rattle.streams.specs.Outcomes.{bytes_of, bytes_in};
 
-use crate::judging::{Outcome, judged};
+use crate::judging::{Outcome, came_to};
 use crate::waiting::wait;
-use libc::EAGAIN;
+use std::io::{Read, Write};
 
 // What a read came to: so many bytes, at least one; the end of the input; or it failed, and errno says why.
 #[derive(Clone, Copy)]
@@ -22,17 +22,20 @@ pub enum Put {
     Failed(i32),
 }
 
+// The number of a call that could not be made yet, as Linux has it.
+const EAGAIN: i32 = 11;
+
 // Reads once into the buffer. Into an empty one nothing can be read, which looks like the end.
-pub fn read(fd: i32, buf: &mut [u8]) -> Got
+pub fn read<R: Read>(rt: HostRuntime, from: &mut R, buf: &mut [u8]) -> Got
     ensures { bytes_in result ≤ length buf.old }
 {
     let mut tries = u64::MAX;
     while tries > 0 {
         tries -= 1;
-        match read_once(fd, buf) {
+        match read_once(from, buf) {
             Outcome::Moved(n) => return Got::Bytes(n),
             Outcome::Nothing => return Got::End,
-            Outcome::Again => wait(),
+            Outcome::Again => wait(rt),
             Outcome::Failed(error) => return Got::Failed(error),
         }
     }
@@ -40,15 +43,14 @@ pub fn read(fd: i32, buf: &mut [u8]) -> Got
 }
 
 // Asks the system once for bytes.
-fn read_once(fd: i32, buf: &mut [u8]) -> Outcome
+fn read_once<R: Read>(from: &mut R, buf: &mut [u8]) -> Outcome
     ensures { bytes_of result ≤ length buf.old }
 {
-    let got = libc::read(fd, buf);
-    judged(got, os::errno())
+    came_to(from.read(buf))
 }
 
 // Writes all of the bytes.
-pub fn write(fd: i32, bytes: &[u8]) -> Put {
+pub fn write<W: Write>(rt: HostRuntime, to: &mut W, bytes: &[u8]) -> Put {
     let mut tries = u64::MAX;
     let mut done: usize = 0;
     while tries > 0 {
@@ -56,11 +58,11 @@ pub fn write(fd: i32, bytes: &[u8]) -> Put {
             return Put::All;
         }
         tries -= 1;
-        match write_once(fd, &bytes[done..]) {
+        match write_once(to, &bytes[done..]) {
             Outcome::Moved(n) => {
                 done += n;
             }
-            Outcome::Nothing | Outcome::Again => wait(),
+            Outcome::Nothing | Outcome::Again => wait(rt),
             Outcome::Failed(error) => return Put::Failed(error),
         }
     }
@@ -68,9 +70,8 @@ pub fn write(fd: i32, bytes: &[u8]) -> Put {
 }
 
 // Hands the system bytes once.
-fn write_once(fd: i32, bytes: &[u8]) -> Outcome
+fn write_once<W: Write>(to: &mut W, bytes: &[u8]) -> Outcome
     ensures { bytes_of result ≤ length bytes.now }
 {
-    let got = libc::write(fd, bytes);
-    judged(got, os::errno())
+    came_to(to.write(bytes))
 }

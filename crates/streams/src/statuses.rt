@@ -1,6 +1,8 @@
-// The status that a program leaves. A Rattle program has none of its own: a script that wants one opens descriptor 3
-// and passes the argument `status=3`, and the program writes its digit there. Without it nothing is written.
+// The status that a program leaves: a script that wants it opens descriptor 3 and passes the argument `status=3`, and
+// the program writes its digit there. Without it nothing is written.
 use crate::moving::write;
+use std::fs::OpenOptions;
+use std::rt::Env;
 
 // How a program ended.
 #[derive(Clone, Copy)]
@@ -11,14 +13,16 @@ pub enum Status {
     WriteFailed,
 }
 
-// The descriptor that it is written to.
-const STATUS_FILENO: i32 = 3;
+// The descriptor that it is written to, as a file.
+const STATUS_FILE: &str = "/dev/fd/3";
 
 // Whether the program was asked for its status.
-fn asked() -> bool {
+fn asked(rt: HostRuntime) -> bool {
     let mut argument = [0u8; 8];
-    let count = os::arg(1, &mut argument);
-    check::same(&argument[..count], b"status=3")
+    match rt.arg(1, &mut argument) {
+        Ok(count) => &argument[..count] == b"status=3".as_slice(),
+        Err(_) => false,
+    }
 }
 
 // The digit of a status.
@@ -31,9 +35,11 @@ fn digit(status: Status) -> u8 {
     }
 }
 
-// Leaves the status, if it was asked for.
-pub fn leave(status: Status) {
-    if asked() {
-        write(STATUS_FILENO, &[digit(status)]);
+// Leaves the status, if it was asked for. Where descriptor 3 is a file, the digit goes behind what stands there.
+pub fn leave(rt: HostRuntime, status: Status) {
+    if asked(rt) {
+        if let Ok(mut file) = OpenOptions::new().append(true).open(&rt, STATUS_FILE) {
+            write(rt, &mut file, &[digit(status)]);
+        }
     }
 }

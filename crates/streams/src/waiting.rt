@@ -1,16 +1,8 @@
 // A little time between two tries.
-use libc::types::timespec;
+use std::thread::sleep;
+use std::time::Duration;
 
-// Waits for the shortest time that the system knows, which is some 50 microseconds. That a signal ends it early does no
-// harm.
-pub fn wait() {
-    let asked = timespec {
-        tv_sec: 0,
-        tv_nsec: 200,
-    };
-    let mut left = timespec {
-        tv_sec: 0,
-        tv_nsec: 0,
-    };
-    libc::nanosleep(&asked, &mut left);
+// Waits for the shortest time that the system knows, which is some 50 microseconds.
+pub fn wait(rt: HostRuntime) {
+    sleep(&rt, Duration::from_nanos(200));
 }

@@ -1,5 +1,7 @@
 // Copies of straight stretches of slots, and into them: with `copies`, which
 // goes round the ring, the only functions that write more than one slot.
+#![tactic(auto)]
+
 mod leaves; // leaves.rt: into the first slots of a lent part
 mod stretch; // stretch.rt: one straight stretch to another place
 

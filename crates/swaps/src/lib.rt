@@ -1,4 +1,6 @@
 // The calls that exchange elements, and those that fill a gap from an end.
+#![tactic(auto)]
+
 ghost use Rattle.std.specs.Prelude.{◌≡◌, ◌<◌, length, get_or, set};
 ghost use Rattle.rules.specs.Ends.{exchange, swap_remove_front, swap_remove_back};
 ghost use Rattle.rules.specs.Outcome.{told, do_rule};

@@ -115,37 +115,44 @@ fn turned(line: &[usize], a_slots: &mut [u32], b_slots: &mut [u32], queues: Queu
 }
 
 // Puts the answer of a call that is accepted and hands nothing over: `none` if it could have.
-fn put_unhanded(number: usize, moved: usize, out: &mut [u8], at: usize) -> usize {
+fn put_unhanded(rt: HostRuntime, number: usize, moved: usize, out: &mut [u8], at: usize) -> usize {
     match number {
         call::POP_FRONT..=call::POP_BACK_IF
         | call::REMOVE
         | call::SWAP_REMOVE_FRONT
         | call::SWAP_REMOVE_BACK
         | call::DRAIN_NEXT
-        | call::DRAIN_NEXT_BACK => put_said(out, at, 0, moved, b" none"),
-        _ => put_said(out, at, 0, moved, b" ."),
+        | call::DRAIN_NEXT_BACK => put_said(rt, out, at, 0, moved, b" none"),
+        _ => put_said(rt, out, at, 0, moved, b" ."),
     }
 }
 
 // Puts what a call that can change a queue gave.
-fn put_turned(number: usize, turned: StepAnswer, out: &mut [u8], at: usize) -> usize {
+fn put_turned(
+    rt: HostRuntime,
+    number: usize,
+    turned: StepAnswer,
+    out: &mut [u8],
+    at: usize,
+) -> usize {
     let handed = turned.handed;
     match handed {
         Given::Number(element) => {
-            let named = put_said(out, at, 0, turned.moved, b" =");
-            put_spaced(out, named, element as usize)
+            let named = put_said(rt, out, at, 0, turned.moved, b" =");
+            put_spaced(rt, out, named, element as usize)
         }
         Given::Nothing => {
             if turned.refused == 0 {
-                return put_unhanded(number, turned.moved, out, at);
+                return put_unhanded(rt, number, turned.moved, out, at);
             }
-            put_said(out, at, turned.refused, turned.moved, b" .")
+            put_said(rt, out, at, turned.refused, turned.moved, b" .")
         }
     }
 }
 
 // Makes a call that can change a queue, and puts what it gave.
 pub fn change(
+    rt: HostRuntime,
     line: &[usize],
     a_slots: &mut [u32],
     b_slots: &mut [u32],
@@ -161,6 +168,6 @@ pub fn change(
             a: queues.a.with_state(a),
             b: queues.b.with_state(b),
         },
-        at: put_turned(call_number(line), left, out, at),
+        at: put_turned(rt, call_number(line), left, out, at),
     }
 }

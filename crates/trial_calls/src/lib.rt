@@ -1,4 +1,6 @@
 // A line's call: made on the two queues, and what it gave put into the line of output.
+#![tactic(auto)]
+
 mod changes; // changes.rt: the calls that can change a queue
 mod sets; // sets.rt: the calls that set a state
 
@@ -39,24 +41,32 @@ fn doing_of(number: usize) -> Doing {
 }
 
 // Makes a call on one queue that changes no slot, and puts what it gave.
-fn ask_one(line: &[usize], slots: &[u32], kept: Kept, out: &mut [u8], at: usize) -> CalledOne {
+fn ask_one(
+    rt: HostRuntime,
+    line: &[usize],
+    slots: &[u32],
+    kept: Kept,
+    out: &mut [u8],
+    at: usize,
+) -> CalledOne {
     let number = call_number(line);
     let words = operands(line);
     match doing_of(number) {
-        Doing::Walk => walk(number, slots, kept, out, at),
+        Doing::Walk => walk(rt, number, slots, kept, out, at),
         Doing::Set => CalledOne {
             kept: set(number, words, kept),
-            at: put_done(out, at),
+            at: put_done(rt, out, at),
         },
         _ => CalledOne {
             kept,
-            at: look_at(number, words, slots, kept, out, at),
+            at: look_at(rt, number, words, slots, kept, out, at),
         },
     }
 }
 
 // The same on the line's queue.
 fn ask<'a>(
+    rt: HostRuntime,
     line: &[usize],
     a_slots: &'a [u32],
     b_slots: &'a [u32],
@@ -66,7 +76,7 @@ fn ask<'a>(
 ) -> Called {
     let side = side_of(line);
     let slots = slots_of(side, a_slots, b_slots);
-    let asked = ask_one(line, slots, queues.of(side), out, at);
+    let asked = ask_one(rt, line, slots, queues.of(side), out, at);
     let kept = asked.kept;
     Called {
         queues: queues.with(side, kept),
@@ -76,6 +86,7 @@ fn ask<'a>(
 
 // Compares the line's queue with the other, and puts what came of it.
 fn compare_both<'a>(
+    rt: HostRuntime,
     line: &[usize],
     a_slots: &'a [u32],
     b_slots: &'a [u32],
@@ -88,6 +99,7 @@ fn compare_both<'a>(
     let slots = slots_of(side, a_slots, b_slots);
     let other_slots = slots_of(second, a_slots, b_slots);
     compare(
+        rt,
         call_number(line),
         slots,
         queues.of(side),
@@ -100,6 +112,7 @@ fn compare_both<'a>(
 
 // Makes a line's call, and puts what it gave.
 pub fn make_call(
+    rt: HostRuntime,
     line: &[usize],
     a_slots: &mut [u32],
     b_slots: &mut [u32],
@@ -108,16 +121,16 @@ pub fn make_call(
     at: usize,
 ) -> Called {
     match doing_of(call_number(line)) {
-        Doing::Change => change(line, a_slots, b_slots, queues, out, at),
+        Doing::Change => change(rt, line, a_slots, b_slots, queues, out, at),
         Doing::Compare => Called {
             queues,
-            at: compare_both(line, a_slots, b_slots, queues, out, at),
+            at: compare_both(rt, line, a_slots, b_slots, queues, out, at),
         },
         Doing::Plant => Called {
             queues: plant(operands(line), a_slots, b_slots),
-            at: put_done(out, at),
+            at: put_done(rt, out, at),
         },
-        _ => ask(line, a_slots, b_slots, queues, out, at),
+        _ => ask(rt, line, a_slots, b_slots, queues, out, at),
     }
 }
 

@@ -50,7 +50,7 @@ pub fn fill(slots: &mut [u32], first: u32) {
     let mut value = first;
     for i in 0..slots.len() {
         slots[i] = value;
-        value = std::num::wrapping_add_u32(value, 1);
+        value = value.wrapping_add(1);
     }
 }
 

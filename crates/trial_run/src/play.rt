@@ -35,12 +35,12 @@ fn leaves(at: usize, status: Status) -> Played {
 }
 
 // Puts the line of a broken line of the script, and says so.
-fn break_off(out: &mut [u8], at: usize, number: usize) -> Played {
-    say(b"trial: line ");
-    say_number(number as u64);
-    say(b" is broken: nothing behind it was played\n");
+fn break_off(rt: HostRuntime, out: &mut [u8], at: usize, number: usize) -> Played {
+    say(rt, b"trial: line ");
+    say_number(rt, number as u64);
+    say(rt, b" is broken: nothing behind it was played\n");
     Played {
-        at: put_broken(out, at, number),
+        at: put_broken(rt, out, at, number),
         status: Status::Broken,
     }
 }
@@ -55,6 +55,7 @@ fn after_line(out: &[u8], now: Now) -> Progress {
 
 // Makes the call of a line that was read, and puts its line of output.
 fn play_line(
+    rt: HostRuntime,
     words: &[usize],
     a_slots: &mut [u32],
     b_slots: &mut [u32],
@@ -64,9 +65,9 @@ fn play_line(
 ) -> Progress {
     let queues = now.queues;
     if is_call(words, queues) {
-        let called = make_call(words, a_slots, b_slots, queues, out, now.at);
+        let called = make_call(rt, words, a_slots, b_slots, queues, out, now.at);
         let left = called.queues;
-        let at = put_queues(out, called.at, a_slots, b_slots, left);
+        let at = put_queues(rt, out, called.at, a_slots, b_slots, left);
         return after_line(
             out,
             Now {
@@ -89,6 +90,7 @@ fn front(words: &[usize], count: usize) -> &[usize] {
 
 // Reads the next line, and plays it. A line has at most 2,000 words.
 fn play_next(
+    rt: HostRuntime,
     buf: &mut [u8],
     a_slots: &mut [u32],
     b_slots: &mut [u32],
@@ -97,11 +99,11 @@ fn play_next(
 ) -> Progress {
     let mut words = [0usize; 2000];
     let piece = now.piece;
-    match next_words(buf, piece, &mut words) {
+    match next_words(rt, buf, piece, &mut words) {
         Read::Words {
             count,
             piece: behind,
-        } => play_line(front(&words, count), a_slots, b_slots, out, now, behind),
+        } => play_line(rt, front(&words, count), a_slots, b_slots, out, now, behind),
         Read::Broken => Progress::Broken,
         Read::End => Progress::End,
         Read::Failed => Progress::ReadFailed,
@@ -110,6 +112,7 @@ fn play_next(
 
 // Plays every line behind the first.
 fn play_lines(
+    rt: HostRuntime,
     buf: &mut [u8],
     a_slots: &mut [u32],
     b_slots: &mut [u32],
@@ -121,11 +124,11 @@ fn play_lines(
     // Nothing says that the input ends, but its lines can be counted.
     while number < usize::MAX {
         number += 1;
-        match play_next(buf, a_slots, b_slots, out, now) {
+        match play_next(rt, buf, a_slots, b_slots, out, now) {
             Progress::On(next) => {
                 now = next;
             }
-            Progress::Broken => return break_off(out, now.at, number),
+            Progress::Broken => return break_off(rt, out, now.at, number),
             Progress::End => return leaves(now.at, Status::Well),
             Progress::ReadFailed => return leaves(now.at, Status::ReadFailed),
             // It was said: nothing more is to be written.
@@ -137,6 +140,7 @@ fn play_lines(
 
 // Plays a script whose first line was read, on slots of its capacities.
 fn play(
+    rt: HostRuntime,
     buf: &mut [u8],
     piece: Piece,
     a_slots: &mut [u32],
@@ -145,7 +149,7 @@ fn play(
 ) -> Played {
     fill(a_slots, 1000);
     fill(b_slots, 2000);
-    let at = put_first(out, a_slots.len(), b_slots.len());
+    let at = put_first(rt, out, a_slots.len(), b_slots.len());
     let begin = Now {
         piece,
         queues: Queues {
@@ -154,31 +158,43 @@ fn play(
         },
         at,
     };
-    play_lines(buf, a_slots, b_slots, out, begin)
+    play_lines(rt, buf, a_slots, b_slots, out, begin)
 }
 
 // Plays a script up to what the output's buffer holds last. A script without any line writes nothing.
-fn play_all(buf: &mut [u8], a_slots: &mut [u32], b_slots: &mut [u32], out: &mut [u8]) -> Played {
-    match first_line(buf) {
+fn play_all(
+    rt: HostRuntime,
+    buf: &mut [u8],
+    a_slots: &mut [u32],
+    b_slots: &mut [u32],
+    out: &mut [u8],
+) -> Played {
+    match first_line(rt, buf) {
         First::Capacities { a, b, piece } => {
             if a <= a_slots.len() {
                 if b <= b_slots.len() {
-                    return play(buf, piece, &mut a_slots[0..a], &mut b_slots[0..b], out);
+                    return play(rt, buf, piece, &mut a_slots[0..a], &mut b_slots[0..b], out);
                 }
             }
-            break_off(out, 0, 1)
+            break_off(rt, out, 0, 1)
         }
-        First::Broken => break_off(out, 0, 1),
+        First::Broken => break_off(rt, out, 0, 1),
         First::End => leaves(0, Status::Well),
         First::Failed => leaves(0, Status::ReadFailed),
     }
 }
 
 // Plays a script, writes what is left in the output's buffer, and answers how it ended.
-pub fn run(buf: &mut [u8], a_slots: &mut [u32], b_slots: &mut [u32], out: &mut [u8]) -> Status {
-    let played = play_all(buf, a_slots, b_slots, out);
+pub fn run(
+    rt: HostRuntime,
+    buf: &mut [u8],
+    a_slots: &mut [u32],
+    b_slots: &mut [u32],
+    out: &mut [u8],
+) -> Status {
+    let played = play_all(rt, buf, a_slots, b_slots, out);
     let status = played.status;
-    if flush(out, played.at) {
+    if flush(rt, out, played.at) {
         return status;
     }
     Status::WriteFailed

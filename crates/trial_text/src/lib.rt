@@ -1,5 +1,7 @@
 // Text in and out: lines of numbers out of standard input, the words that each call takes, and into standard output
 // numbers, texts and what a call gave.
+#![tactic(auto)]
+
 pub mod call; // call.rt: the call numbers
 mod forms; // forms.rt: the words that each call takes
 mod reading; // reading.rt: standard input, one line at a time

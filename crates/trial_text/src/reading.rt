@@ -42,8 +42,8 @@ fn first_of_piece(buf: &[u8], end: usize) -> Byte {
 }
 
 // Reads the next piece, and takes its first byte.
-fn next_piece(buf: &mut [u8]) -> Byte {
-    match streams::read_input(b"trial", buf) {
+fn next_piece(rt: HostRuntime, buf: &mut [u8]) -> Byte {
+    match streams::read_input(rt, b"trial", buf) {
         Got::Bytes(end) => first_of_piece(buf, end),
         Got::End => Byte::End,
         Got::Failed(_) => Byte::Failed,
@@ -51,7 +51,7 @@ fn next_piece(buf: &mut [u8]) -> Byte {
 }
 
 // Takes the next byte.
-fn next_byte(buf: &mut [u8], piece: Piece) -> Byte {
+fn next_byte(rt: HostRuntime, buf: &mut [u8], piece: Piece) -> Byte {
     let used = piece.used;
     let end = piece.end;
     if used < end {
@@ -65,7 +65,7 @@ fn next_byte(buf: &mut [u8], piece: Piece) -> Byte {
             };
         }
     }
-    next_piece(buf)
+    next_piece(rt, buf)
 }
 
 // What stands behind the last newline: a line, unless it is empty.
@@ -77,11 +77,11 @@ fn last_line(len: usize, piece: Piece) -> Line {
 }
 
 // Reads a line into the front of `line`; one that fills it is too long. The last line may lack its newline.
-pub fn next_line(buf: &mut [u8], piece: Piece, line: &mut [u8]) -> Line {
+pub fn next_line(rt: HostRuntime, buf: &mut [u8], piece: Piece, line: &mut [u8]) -> Line {
     let mut now = piece;
     let mut len: usize = 0;
     while len < line.len() {
-        match next_byte(buf, now) {
+        match next_byte(rt, buf, now) {
             Byte::Read { byte, piece } => {
                 if byte == b'\n' {
                     return Line::Whole { len, piece };

@@ -130,9 +130,9 @@ fn with_piece(words: Words, piece: Piece) -> Read {
 }
 
 // Reads the next line, and puts its numbers into `words`.
-pub fn next_words(buf: &mut [u8], piece: Piece, words: &mut [usize]) -> Read {
+pub fn next_words(rt: HostRuntime, buf: &mut [u8], piece: Piece, words: &mut [usize]) -> Read {
     let mut line = [0u8; LINE];
-    match next_line(buf, piece, &mut line) {
+    match next_line(rt, buf, piece, &mut line) {
         Line::Whole { len, piece: behind } => with_piece(
             read_words(front(&line, len), 0, words),
             behind,
@@ -176,9 +176,9 @@ fn capacities(line: &[u8], piece: Piece) -> First {
 }
 
 // Reads a script's first line.
-pub fn first_line(buf: &mut [u8]) -> First {
+pub fn first_line(rt: HostRuntime, buf: &mut [u8]) -> First {
     let mut line = [0u8; LINE];
-    match next_line(buf, nothing_read(), &mut line) {
+    match next_line(rt, buf, nothing_read(), &mut line) {
         Line::Whole { len, piece } => capacities(front(&line, len), piece),
         Line::TooLong => First::Broken,
         Line::End => First::End,

@@ -1,5 +1,7 @@
 // The calls of a sequence, as values: in groups by what they are made on, as in the rules, and within these by what
 // they answer.
+#![tactic(auto)]
+
 use conditions::Test;
 
 // Calls that hand nothing over and take numbers alone.

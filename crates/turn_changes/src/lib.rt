@@ -1,5 +1,7 @@
 // The calls that can change one queue, by their value: those on a queue,
 // and those of its open drain. Their answers are told in one form.
+#![tactic(auto)]
+
 ghost use Rattle.std.specs.Prelude.{◌≡◌};
 ghost use Rattle.rules.specs.Calls.{rule};
 ghost use Rattle.rules.specs.Outcome.{do_rule, told};

@@ -1,4 +1,6 @@
 // The calls that only look, by their value. What they saw is told in one form.
+#![tactic(auto)]
+
 ghost use Rattle.std.specs.Prelude.{◌≡◌};
 ghost use Rattle.rules.specs.Asks.{answered, answered_both};
 ghost use Rattle.queue.specs.Answers.{rec_of};

@@ -2,6 +2,8 @@
 // it: its contract is the step of the rules' sequences of calls.
 // Not among the calls: a walk's, which keeps a record of its own, and `write_image`, to which bytes are lent to be
 // written.
+#![tactic(auto)]
+
 mod answering; // answering.rt: the answers of calls that leave a queue, or both, as they are
 mod steps; // steps.rt: a call on either queue, or on both
 

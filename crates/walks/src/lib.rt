@@ -1,4 +1,6 @@
 // Walks over a queue's list, from both ends. A walk keeps the queue's record and its own two ends.
+#![tactic(auto)]
+
 ghost use Rattle.std.specs.Prelude.{◌≡◌};
 ghost use Rattle.rules.specs.Walks.{whole_walk, begin_walk, next_step, next_back_step};
 ghost use Rattle.queue.specs.Answers.{rec_of};

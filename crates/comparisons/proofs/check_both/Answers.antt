@@ -1,6 +1,5 @@
 -- `comparisons::check_both` meets its contract. Assumes nothing.
 use mathlib.Core.Path.{sym, ◌∙◌}
-use borrow.Author.Rules.{rules}
 use Rattle.queue.proofs.Checks.{failed_number, passed_zero}
 use Rattle.queue.proofs.Numbers.{some_number}
 use Rattle.rules.proofs.Refusals.{queue-stop, queue_go}

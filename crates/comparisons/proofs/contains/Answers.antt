@@ -5,7 +5,6 @@ use Rattle.queue.proofs.Checks.{passed_zero}
 use Rattle.queue.proofs.Looks.{look_first}
 use Rattle.queue.specs.Answers.{rec_of}
 use Rattle.rules.specs.Looks.{sees, has}
-use borrow.Author.Rules.{rules}
 use Rattle.comparisons.proofs.contains.Goals as goal
 
 pub returns-in-Refused : goal.returns-in-Refused

@@ -4,7 +4,6 @@ use Rattle.comparisons.proofs.Queues.{both_refused, both_seen}
 use Rattle.queue.proofs.Checks.{passed_zero}
 use Rattle.queue.specs.Answers.{rec_of}
 use Rattle.rules.specs.Looks.{sees, same}
-use borrow.Author.Rules.{rules}
 use Rattle.comparisons.proofs.eq.Goals as goal
 
 pub returns-in-Refused : goal.returns-in-Refused

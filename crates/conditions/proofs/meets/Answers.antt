@@ -1,8 +1,6 @@
 -- `conditions::meets` meets its contract: one law for the four tests. Assumes nothing.
-use mathlib.Core.Bool.{Bool}
 use mathlib.Core.Path.{◌≡◌, sym, ap}
 use Prim.Native.Nat.{ℕ}
-use borrow.Author.Rules.{rules}
 use Rattle.rules.specs.Conditions.{meets}
 use Rattle.conditions.specs.Tests.{test_of}
 use Rattle.conditions.specs.declared.Test.{Test}

@@ -1,11 +1,10 @@
 -- `crossings::copy_range` meets its contract. Assumes nothing.
-use mathlib.Core.Path.{◌∙◌, ap, refl, sym}
+use mathlib.Core.Path.{◌∙◌, ap, refl}
 use native.Mathlib.Omega.{arith}
 use Rattle.crossings.proofs.Copied.{first_in_slots, range_there, range_straight, none_laid}
 use Rattle.queue.proofs.Checks.{fine}
 use Rattle.queue.specs.Answers.{rec_of}
-use Rattle.rules.specs.Slots.{lay, list_of}
-use borrow.Author.Rules.{rules}
+use Rattle.rules.specs.Slots.{lay}
 use Rattle.crossings.proofs.copy_range.Goals as goal
 
 pub returns-then-n-eq0 : goal.returns-then-n-eq0

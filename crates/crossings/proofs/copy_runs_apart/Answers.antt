@@ -1,7 +1,6 @@
 -- `crossings::copy_runs_apart` meets its contract. Assumes nothing.
 use mathlib.Core.Path.{sym, ◌∙◌}
 use native.Mathlib.Omega.{arith}
-use borrow.Author.Rules.{rules}
 use lib.Seq.{length-take-le}
 use Rattle.crossings.proofs.Copied.{back_fits, both_laid}
 use Rattle.rules.specs.Slots.{lay, list_of}

@@ -1,13 +1,8 @@
 -- `drains::drain` meets its contract. Assumes nothing.
-use mathlib.Core.Path.{◌≡◌}
 use native.Mathlib.Omega.{arith}
-use borrow.Author.Rules.{rules}
-use lib.ListN.{length}
 use Rattle.drains.proofs.Draws.{open_first, open_range, opens}
 use Rattle.queue.proofs.Checks.{passed_zero, failed_number}
-use Rattle.queue.specs.Answers.{rec_of}
 use Rattle.rules.proofs.Refusals.{range_ok}
-use Rattle.rules.specs.Refusals.{on_change, in_range}
 use Rattle.drains.proofs.drain.Goals as goal
 
 pub returns-in-Refused : goal.returns-in-Refused

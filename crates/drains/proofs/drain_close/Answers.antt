@@ -1,14 +1,11 @@
 -- `drains::drain_close` meets its contract. Assumes nothing.
-use mathlib.Core.Path.{◌≡◌}
 use native.Mathlib.Omega.{arith}
-use borrow.Author.Rules.{rules}
 use lib.ListN.{length}
 use Rattle.queue.proofs.DrainChecks.{drain_refused}
 use Rattle.drains.proofs.Closes.{drain_closed}
 use Rattle.queue.specs.Drains.{drain_of}
 use Rattle.queue.proofs.Checks.{passed_zero}
 use Rattle.rules.proofs.Drains.{GoodDrain, drain_ok}
-use Rattle.rules.specs.Drains.{on_drain}
 use Rattle.rules.specs.Outcome.{do_close}
 use Rattle.drains.proofs.drain_close.Goals as goal
 

@@ -1,7 +1,6 @@
 -- `drains::drain_next_back` meets its contract. Assumes nothing.
 use mathlib.Core.Path.{◌≡◌}
 use native.Mathlib.Omega.{arith}
-use borrow.Author.Rules.{rules}
 use lib.ListN.{length}
 use Rattle.queue.proofs.DrainChecks.{drain_refused, drain_queue, remains_in}
 use Rattle.drains.proofs.Draws.{next-back_none, next-back_some}

@@ -1,7 +1,6 @@
 -- `extends::check_more` meets its contract. Assumes nothing.
 use mathlib.Core.Path.{◌≡◌}
 use native.Mathlib.Omega.{arith}
-use borrow.Author.Rules.{rules}
 use Rattle.extends.proofs.Asks.{queue-refuses, queue-passes, room-refuses, room-passes}
 use Rattle.queue.proofs.Checks.{passed_zero}
 use Rattle.queue.specs.Answers.{rec_of}

@@ -1,5 +1,4 @@
 -- `extends::extend` meets its contract. Assumes nothing.
-use borrow.Author.Rules.{rules}
 use native.Mathlib.Omega.{arith}
 use lib.ListN.{length}
 use Rattle.extends.proofs.Adds.{extended_refused, extended_none, extended}

@@ -1,5 +1,4 @@
 -- `extends::extend_front` meets its contract. Assumes nothing.
-use borrow.Author.Rules.{rules}
 use native.Mathlib.Omega.{arith}
 use lib.ListN.{length}
 use Rattle.extends.proofs.Adds.{front_fits, fronted_refused, fronted_none, fronted}

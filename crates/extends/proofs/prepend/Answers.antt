@@ -1,5 +1,4 @@
 -- `extends::prepend` meets its contract. Assumes nothing.
-use borrow.Author.Rules.{rules}
 use native.Mathlib.Omega.{arith}
 use lib.ListN.{length}
 use Rattle.extends.proofs.Adds.{front_fits, prepended_refused, prepended_none, prepended}

@@ -1,13 +1,9 @@
 -- `extends::resize` meets its contract. Assumes nothing.
-use borrow.Author.Rules.{rules}
-use mathlib.Core.Path.{◌≡◌}
 use native.Mathlib.Omega.{arith}
-use lib.ListN.{length}
 use Rattle.extends.proofs.Adds.{resized_full, cut_down, filled_up}
 use Rattle.queue.proofs.Checks.{passed_zero, Fine, fine_change, told_first_lem}
 use Rattle.queue.specs.Answers.{rec_of}
 use Rattle.extends.proofs.Behind.{place_in}
-use Rattle.rules.specs.Refusals.{on_change}
 use Rattle.extends.proofs.resize.Goals as goal
 
 pub returns-in-Refused : goal.returns-in-Refused

@@ -1,6 +1,4 @@
 -- `extends::stepped_back` meets its contract. Assumes nothing.
-use Rattle.rules.specs.Records.{stepped}
-use borrow.Author.Rules.{rules}
 use Rattle.extends.proofs.stepped_back.Goals as goal
 
 pub returns : goal.returns

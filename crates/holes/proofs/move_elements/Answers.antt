@@ -2,7 +2,6 @@
 use mathlib.Core.Path.{◌∙◌}
 use native.Mathlib.Omega.{arith}
 use lib.ListN.{length}
-use borrow.Author.Rules.{rules}
 use Rattle.holes.proofs.Rooms.{can_move}
 use Rattle.rules.specs.Slots.{copied}
 use Rattle.holes.proofs.move_elements.Goals as goal
@@ -11,7 +10,7 @@ pub wrap_copy-requires : goal.wrap_copy-requires
 wrap_copy-requires c =
     let a = c.args in
     let can = can_move (length a.slots.now) a.head.0 a.from a.to a.n _ _ c.requires.0 (omega arith) (omega arith)
-        c.requires.3 c.wrap_add-src.ensures c.wrap_add-dst.ensures in
+    c.requires.3 c.wrap_add-src.ensures c.wrap_add-dst.ensures in
     record { src_in_bounds = can.0; one_overlap = can.1 }
 
 pub returns : goal.returns

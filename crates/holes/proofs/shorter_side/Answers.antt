@@ -1,6 +1,5 @@
 -- `holes::shorter_side` meets its contract. Assumes nothing.
 use native.Mathlib.Omega.{arith}
-use borrow.Author.Rules.{rules}
 use Rattle.holes.proofs.Closes.{earlier_side, later_side}
 use Rattle.holes.proofs.shorter_side.Goals as goal
 

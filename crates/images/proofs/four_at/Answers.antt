@@ -1,5 +1,4 @@
 -- `images::four_at` meets its contract. Assumes nothing.
-use borrow.Author.Rules.{rules}
 use Rattle.images.proofs.Bytes.{four_number}
 use Rattle.images.proofs.four_at.Goals as goal
 

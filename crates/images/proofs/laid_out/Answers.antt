@@ -1,7 +1,6 @@
 -- `images::laid_out` meets its contract. Assumes nothing.
 use mathlib.Core.Path.{◌∙◌, sym}
 use native.Mathlib.Omega.{arith}
-use borrow.Author.Rules.{rules}
 use Rattle.images.proofs.Reading.{wrong_size, wrong_count, wrong_version, right}
 use Rattle.images.proofs.laid_out.Goals as goal
 

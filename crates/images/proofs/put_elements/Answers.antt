@@ -1,6 +1,6 @@
 -- `images::put_elements` meets its contract. Assumes nothing.
 use mathlib.Core.Path.{◌≡◌, refl, ◌∙◌, ap}
-use Prim.Native.Nat.{◌≤◌, ◌-◌, ◌<◌, ℕ}
+use Prim.Native.Nat.{◌<◌, ℕ}
 use native.Mathlib.Omega.{arith}
 use borrow.Author.Rules.{rules}
 use lib.ListN.{length}
@@ -20,10 +20,10 @@ pub wrap_add-place-requires : goal.wrap_add-place-requires
 wrap_add-place-requires c = omega arith
 
 pub offset_bounds-slots-p : goal.offset_bounds-slots-p
-offset_bounds-slots-p c = let k : c.as_index-p.result < length c.args.slots.now = let a = c.args in omega ( arith, c.as_index-p.ensures, c.wrap_add-place.ensures, place-low (length a.slots.now) a.head.0 (omega arith) c.loop-i.i (omega arith), ) in omega arith
+offset_bounds-slots-p c = let k : c.as_index-p.result < length c.args.slots.now = let a = c.args in omega (arith, c.as_index-p.ensures, c.wrap_add-place.ensures, place-low (length a.slots.now) a.head.0 (omega arith) c.loop-i.i (omega arith)) in omega arith
 
 pub bounds-slots-p : goal.bounds-slots-p
-bounds-slots-p c = (let it : c.as_index-p.result < length c.args.slots.now = let a = c.args in omega ( arith, c.as_index-p.ensures, c.wrap_add-place.ensures, place-low (length a.slots.now) a.head.0 (omega arith) c.loop-i.i (omega arith), ) in it)
+bounds-slots-p c = (let it : c.as_index-p.result < length c.args.slots.now = let a = c.args in omega (arith, c.as_index-p.ensures, c.wrap_add-place.ensures, place-low (length a.slots.now) a.head.0 (omega arith) c.loop-i.i (omega arith)) in it)
 
 pub loop-i-preserved : goal.loop-i-preserved
 loop-i-preserved c =

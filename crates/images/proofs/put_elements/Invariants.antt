@@ -1,12 +1,8 @@
 -- `images::put_elements` meets its contract. Assumes nothing.
-use mathlib.Core.Path.{◌≡◌, refl, ◌∙◌, ap}
-use Prim.Native.Nat.{◌≤◌, ◌-◌, ◌<◌, ℕ}
-use native.Mathlib.Omega.{arith}
-use borrow.Author.Rules.{rules}
+use mathlib.Core.Path.{◌≡◌}
+use Prim.Native.Nat.{◌≤◌, ◌-◌}
 use lib.ListN.{length}
 use lib.Seq.{sets}
-use Rattle.images.proofs.Writing.{put_none, put_more}
-use Rattle.rules.proofs.Places.{place-low}
 use Rattle.rules.specs.Images.{all_bytes}
 use Rattle.rules.specs.Slots.{list_of}
 use Rattle.images.proofs.put_elements.Given as goal

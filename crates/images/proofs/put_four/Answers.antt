@@ -1,7 +1,6 @@
 -- `images::put_four` meets its contract. Assumes nothing.
 use mathlib.Core.Path.{refl}
 use native.Mathlib.Omega.{arith}
-use borrow.Author.Rules.{rules}
 use lib.ListN.{length-set}
 use Rattle.images.proofs.Bytes.{four_sets}
 use Rattle.rules.specs.Images.{four_bytes}

@@ -1,7 +1,6 @@
 -- `images::put_head` meets its contract. Assumes nothing.
 use mathlib.Core.Path.{refl}
 use native.Mathlib.Omega.{arith}
-use borrow.Author.Rules.{rules}
 use lib.ListN.{length-set}
 use Rattle.rules.specs.Images.{two_bytes}
 use Rattle.images.proofs.put_head.Goals as goal

@@ -1,10 +1,7 @@
 -- `images::read_image` meets its contract. Assumes nothing.
-use mathlib.Core.Bool.{true}
-use mathlib.Core.Path.{◌≡◌, sym, ◌∙◌}
+use mathlib.Core.Path.{sym, ◌∙◌}
 use native.Mathlib.Omega.{arith}
-use borrow.Author.Rules.{rules}
 use Rattle.images.proofs.Reading.{reads_slots, laid_size, reads_full, reads, reads_broken}
-use Rattle.rules.specs.Images.{laid_out}
 use Rattle.images.proofs.read_image.Goals as goal
 
 pub returns-then-cap-most_slots : goal.returns-then-cap-most_slots

@@ -1,9 +1,8 @@
 -- `images::take_elements` meets its contract. Assumes nothing.
 use mathlib.Core.Path.{◌≡◌, refl, ◌∙◌, ap}
-use Prim.Native.Nat.{◌≤◌, ◌-◌, ℕ}
+use Prim.Native.Nat.{ℕ}
 use native.Mathlib.Omega.{arith}
-use borrow.Author.Rules.{rules}
-use lib.ListN.{length, drop, length-set}
+use lib.ListN.{drop, length-set}
 use lib.Seq.{sets}
 use Rattle.images.proofs.Reading.{take_none, take_more, take_all}
 use Rattle.rules.specs.Images.{fours}

@@ -1,5 +1,4 @@
 -- `images::two_at` meets its contract. Assumes nothing.
-use borrow.Author.Rules.{rules}
 use Rattle.images.proofs.Bytes.{two_number}
 use Rattle.images.proofs.two_at.Goals as goal
 

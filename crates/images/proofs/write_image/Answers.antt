@@ -1,12 +1,8 @@
 -- `images::write_image` meets its contract. Assumes nothing.
-use mathlib.Core.Path.{◌≡◌}
 use native.Mathlib.Omega.{arith}
-use borrow.Author.Rules.{rules}
-use lib.ListN.{length}
 use Rattle.images.proofs.Writing.{writes_first, writes_full, writes}
 use Rattle.queue.proofs.Checks.{passed_zero, Fine, fine, failed_number}
 use Rattle.queue.specs.Answers.{rec_of}
-use Rattle.rules.specs.Refusals.{on_queue}
 use Rattle.images.proofs.write_image.Goals as goal
 
 pub returns-in-Refused : goal.returns-in-Refused

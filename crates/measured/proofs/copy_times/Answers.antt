@@ -1,13 +1,12 @@
 -- `measured::copy_times` meets its contract. The invariant: i copies are made. Assumes nothing.
 use mathlib.Core.List.{List}
 use mathlib.Core.Path.{◌≡◌, refl, ap, ◌∙◌}
-use Prim.Native.Nat.{ℕ, suc, ◌+◌, ◌-◌, ◌≤◌}
+use Prim.Native.Nat.{ℕ, suc, ◌+◌}
 use native.Mathlib.Omega.{arith}
 use lib.ListN.{length}
 use Rattle.rules.proofs.Slots.{length-lay}
 use Rattle.rules.specs.Slots.{copied, list_of}
 use Rattle.measured.specs.Copies.{copied_times}
-use borrow.Author.Rules.{rules}
 use Rattle.measured.proofs.copy_times.Goals as goal
 
 pub loop-i-init : goal.loop-i-init

@@ -1,13 +1,8 @@
 -- `measured::copy_times` meets its contract. The invariant: i copies are made. Assumes nothing.
-use mathlib.Core.List.{List}
-use mathlib.Core.Path.{◌≡◌, refl, ap, ◌∙◌}
-use Prim.Native.Nat.{ℕ, suc, ◌+◌, ◌-◌, ◌≤◌}
-use native.Mathlib.Omega.{arith}
+use mathlib.Core.Path.{◌≡◌}
+use Prim.Native.Nat.{◌-◌, ◌≤◌}
 use lib.ListN.{length}
-use Rattle.rules.proofs.Slots.{length-lay}
-use Rattle.rules.specs.Slots.{copied, list_of}
 use Rattle.measured.specs.Copies.{copied_times}
-use borrow.Author.Rules.{rules}
 use Rattle.measured.proofs.copy_times.Given as goal
 
 abbrev pub invariant-loop-i : goal.invariant-loop-i

@@ -1,7 +1,6 @@
 -- `measured::scorebucket_copy` meets its contract. Assumes nothing.
 use native.Mathlib.Omega.{arith}
 use Rattle.measured.proofs.Copies.{starts_out, ends_out, lies_in, too_long, from_out, to_out, copies_it}
-use borrow.Author.Rules.{rules}
 use Rattle.measured.proofs.scorebucket_copy.Goals as goal
 
 pub returns-then-cap-most_slots : goal.returns-then-cap-most_slots

@@ -1,5 +1,5 @@
 -- `places::next` meets its contract. Assumes nothing.
-use Rattle.std.proofs.Common.{◌+◌, arith, rules}
+use Rattle.std.proofs.Common.{◌+◌, arith}
 use Rattle.rules.proofs.Places.{wrapped-high, wrapped-low}
 use Rattle.places.proofs.next.Goals as goal
 

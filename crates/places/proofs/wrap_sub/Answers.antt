@@ -1,5 +1,5 @@
 -- `places::wrap_sub` meets its contract: the difference wraps at 2 ^ 64, and the sum wraps back. Assumes nothing.
-use Rattle.std.proofs.Common.{ap, ◌∙◌, arith, rules}
+use Rattle.std.proofs.Common.{ap, ◌∙◌, arith}
 use Rattle.rules.specs.Places.{wrapped}
 use Rattle.places.proofs.wrap_sub.Goals as goal
 

@@ -1,6 +1,5 @@
 -- `retains::before_first_rejected` meets its contract: one law for each return. Assumes nothing.
 use native.Mathlib.Omega.{arith}
-use borrow.Author.Rules.{rules}
 use Rattle.conditions.specs.Tests.{test_of}
 use Rattle.retains.proofs.Stages.{leading_straight, leading-front, leading_both, leading_upto}
 use Rattle.rules.specs.Conditions.{meets}

@@ -1,10 +1,9 @@
 -- `retains::leading_in` meets its contract. The loop's invariant: so many
 -- passed, and the count of the rest is still to be added. Assumes nothing.
 use Prim.Native.Nat.{◌-◌}
-use borrow.Author.Rules.{rules}
 use lib.ListN.{length}
 use Rattle.conditions.specs.Tests.{test_of}
-use Rattle.retains.proofs.Stages.{Passing, passing_none, passing_on, passing_out, passing_all}
+use Rattle.retains.proofs.Stages.{Passing}
 use Rattle.rules.specs.Conditions.{meets}
 use Rattle.retains.proofs.leading_in.Given as goal
 

@@ -1,12 +1,9 @@
 -- `retains::move_kept` meets its contract. The loop's invariant: what is left
 -- to be stored gives the slots and the count in the end. Assumes nothing.
-use mathlib.Core.Path.{◌≡◌, refl}
-use Prim.Native.Nat.{◌<◌, ◌≤◌}
-use native.Mathlib.Omega.{arith}
-use borrow.Author.Rules.{rules}
+use mathlib.Core.Path.{◌≡◌}
 use lib.ListN.{length}
 use Rattle.conditions.specs.Tests.{test_of}
-use Rattle.retains.proofs.Stages.{Moving, source_low, those_upto, moving_none, moving_on, moving-count, moving-slots}
+use Rattle.retains.proofs.Stages.{Moving}
 use Rattle.rules.specs.Conditions.{those, meets}
 use Rattle.rules.specs.Places.{place}
 use Rattle.rules.specs.Slots.{list_of, lay}

@@ -1,6 +1,5 @@
 -- `retains::move_part` meets its contract. Assumes nothing.
 use native.Mathlib.Omega.{arith}
-use borrow.Author.Rules.{rules}
 use Rattle.retains.proofs.Stages.{part_few, part_count, part-slots}
 use Rattle.retains.proofs.move_part.Goals as goal
 
@@ -24,5 +23,8 @@ pub returns : goal.returns
 returns c =
     let a = c.args in
     let s = c.sift-kept.ensures in
-    let fits = c.requires.0 in record { value = part_count _ a.slots.now a.from a.n fits _ s.value; slots_after = part-slots _ a.slots.now a.from a.n fits _ s.value _ _ _ s.held_after
-          c.copy_slice.ensures }
+    let fits = c.requires.0 in record {
+      value = part_count _ a.slots.now a.from a.n fits _ s.value;
+      slots_after = part-slots _ a.slots.now a.from a.n fits _ s.value _ _ _ s.held_after
+          c.copy_slice.ensures;
+    }

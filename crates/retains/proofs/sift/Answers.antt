@@ -1,12 +1,6 @@
 -- `retains::sift` meets its contract. The loop's invariant: those
 -- kept so far stand in the front of `held`. Assumes nothing.
-use mathlib.Core.Logic.{⊎_elim}
-use Prim.Native.Nat.{◌-◌}
-use borrow.Author.Rules.{rules}
-use lib.ListN.{length}
-use Rattle.conditions.specs.Tests.{test_of}
-use Rattle.retains.proofs.Stages.{Sifted, sifted_none, sifted_kept, sifted_out, sifted_count, sifted_stored}
-use Rattle.rules.specs.Conditions.{meets}
+use Rattle.retains.proofs.Stages.{sifted_none, sifted_kept, sifted_out, sifted_count, sifted_stored}
 use Rattle.retains.proofs.sift.Goals.{then-meets, else-meets}
 use Rattle.retains.proofs.sift.Goals as goal
 
@@ -19,8 +13,8 @@ loop-i-preserved c =
     let fits = c.requires in
     let lt = c.loop-i-test.true in
     elim c.if-meets.branch [
-      then-meets w ↦ sifted_kept _ _ _ _ _ _ s fits lt _ c.meets.ensures _ w.if-meets.true w.kept-is
-    | else-meets w ↦ sifted_out _ _ _ _ _ _ s fits lt _ c.meets.ensures _ w.if-meets.false w.kept-is
+      | then-meets w ↦ sifted_kept _ _ _ _ _ _ s fits lt _ c.meets.ensures _ w.if-meets.true w.kept-is
+      | else-meets w ↦ sifted_out _ _ _ _ _ _ s fits lt _ c.meets.ensures _ w.if-meets.false w.kept-is
     ]
 
 pub returns : goal.returns

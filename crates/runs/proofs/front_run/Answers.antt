@@ -1,7 +1,6 @@
 -- `runs::front_run` meets its contract: the part that is handed back is the run's. Assumes nothing.
 use mathlib.Core.Path.{ap}
 use native.Mathlib.Omega.{arith}
-use borrow.Author.Rules.{rules}
 use lib.ListN.{length}
 use Rattle.rules.specs.Runs.{part, front_run}
 use Rattle.runs.proofs.Spans.{Within, runs_within}

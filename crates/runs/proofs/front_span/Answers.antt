@@ -1,6 +1,5 @@
 -- `runs::front_span` meets its contract. Assumes nothing.
 use mathlib.Core.Path.{ap, sym, ◌∙◌}
-use borrow.Author.Rules.{rules}
 use Rattle.rules.specs.Runs.{TwoRuns}
 use Rattle.runs.proofs.Spans.{runs_seen, runs-refused}
 use Rattle.queue.specs.Looks.{of_ranges}

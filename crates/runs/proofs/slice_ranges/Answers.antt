@@ -1,15 +1,12 @@
 -- `runs::slice_ranges` meets its contract. Assumes nothing.
-use mathlib.Core.Path.{◌≡◌, ◌∙◌}
+use mathlib.Core.Path.{◌∙◌}
 use Prim.Native.Nat.{◌<◌}
 use native.Mathlib.Omega.{arith}
-use borrow.Author.Rules.{rules}
 use lib.ListN.{length}
 use Rattle.queue.proofs.Checks.{passed_zero, failed_number, Fine, fine}
 use Rattle.queue.specs.Answers.{rec_of}
 use Rattle.rules.proofs.Places.{place-low}
 use Rattle.rules.proofs.Refusals.{range_ok}
-use Rattle.rules.specs.Places.{place}
-use Rattle.rules.specs.Refusals.{on_queue, in_range}
 use Rattle.runs.proofs.Cases.{runs_none, runs_one, runs_two}
 use Rattle.runs.proofs.SliceRanges.{range_first, range_refused, range_seen}
 use Rattle.runs.proofs.slice_ranges.Goals as goal

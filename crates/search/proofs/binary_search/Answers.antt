@@ -2,7 +2,6 @@
 use mathlib.Core.Path.{◌∙◌}
 use Rattle.queue.proofs.Checks.{passed_zero}
 use Rattle.search.proofs.Searches.{search_refused, spot_seen}
-use borrow.Author.Rules.{rules}
 use Rattle.search.proofs.binary_search.Goals as goal
 
 pub returns-in-Refused : goal.returns-in-Refused

@@ -3,7 +3,6 @@ use mathlib.Core.Path.{◌∙◌, ap}
 use Rattle.queue.proofs.Checks.{passed_zero}
 use Rattle.rules.specs.Looks.{sees}
 use Rattle.search.proofs.Searches.{partition_refused, point_seen}
-use borrow.Author.Rules.{rules}
 use Rattle.search.proofs.partition_point.Goals as goal
 
 pub returns-in-Refused : goal.returns-in-Refused

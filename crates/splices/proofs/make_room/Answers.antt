@@ -1,6 +1,5 @@
 -- `splices::make_room` meets its contract. Assumes nothing.
 use native.Mathlib.Omega.{arith}
-use borrow.Author.Rules.{rules}
 use Rattle.splices.proofs.Made.{by_tail, by_hole}
 use Rattle.splices.proofs.make_room.Goals as goal
 

@@ -1,13 +1,10 @@
 -- `splices::splice` meets its contract. Assumes nothing.
-use mathlib.Core.Path.{◌≡◌}
 use Prim.Native.Nat.{◌-◌}
 use native.Mathlib.Omega.{arith}
-use borrow.Author.Rules.{rules}
 use lib.ListN.{length}
 use Rattle.queue.proofs.Checks.{passed_zero, failed_number, Fine, fine_change, told_first_lem}
 use Rattle.queue.specs.Answers.{rec_of}
 use Rattle.rules.proofs.Refusals.{range_ok}
-use Rattle.rules.specs.Refusals.{on_change, in_range}
 use Rattle.splices.proofs.Made.{spliced_good}
 use Rattle.splices.proofs.Spliced.{splice_range, splice_full, spliced}
 use Rattle.splices.proofs.splice.Goals as goal

@@ -1,5 +1,4 @@
 -- `swaps::fill` meets its contract. Assumes nothing.
-use borrow.Author.Rules.{rules}
 use lib.ListN.{get_or, set}
 use Rattle.swaps.proofs.fill.Goals as goal
 

@@ -2,13 +2,10 @@
 use mathlib.Core.Path.{◌≡◌, ap}
 use Prim.Native.Nat.{◌<◌}
 use native.Mathlib.Omega.{arith}
-use borrow.Author.Rules.{rules}
 use lib.ListN.{length, length-set}
 use Rattle.swaps.proofs.Laws.{one_past, other_past, not_swapped, swapped}
-use Rattle.queue.proofs.Checks.{passed_zero, Fine, fine_change, told_first_lem}
-use Rattle.queue.specs.Answers.{rec_of}
+use Rattle.queue.proofs.Checks.{passed_zero, fine_change, told_first_lem}
 use Rattle.rules.proofs.Places.{place-low}
-use Rattle.rules.specs.Refusals.{on_change}
 use Rattle.swaps.proofs.swap.Goals as goal
 
 pub returns-in-Refused : goal.returns-in-Refused
@@ -39,13 +36,13 @@ pub wrap_add-at_j-requires : goal.wrap_add-at_j-requires
 wrap_add-at_j-requires c = let g = (fine_change _ _ (passed_zero _ _ c.check_change.ensures c.in_default.is)).good in omega arith
 
 pub fill-number-requires : goal.fill-number-requires
-fill-number-requires c = ((let it : c.wrap_add-at_i.result.0 < length c.args.slots.now = let a = c.args in let g = (fine_change _ _ (passed_zero _ _ c.check_change.ensures c.in_default.is)).good in omega ( arith, c.wrap_add-at_i.ensures, place-low (length a.slots.now) a.q.head.0 (omega arith) a.i (omega arith), ) in it), (let it : c.wrap_add-at_j.result.0 < length c.args.slots.now = let a = c.args in let g = (fine_change _ _ (passed_zero _ _ c.check_change.ensures c.in_default.is)).good in omega ( arith, c.wrap_add-at_j.ensures, place-low (length a.slots.now) a.q.head.0 (omega arith) a.j (omega arith), ) in it))
+fill-number-requires c = ((let it : c.wrap_add-at_i.result.0 < length c.args.slots.now = let a = c.args in let g = (fine_change _ _ (passed_zero _ _ c.check_change.ensures c.in_default.is)).good in omega (arith, c.wrap_add-at_i.ensures, place-low (length a.slots.now) a.q.head.0 (omega arith) a.i (omega arith)) in it), (let it : c.wrap_add-at_j.result.0 < length c.args.slots.now = let a = c.args in let g = (fine_change _ _ (passed_zero _ _ c.check_change.ensures c.in_default.is)).good in omega (arith, c.wrap_add-at_j.ensures, place-low (length a.slots.now) a.q.head.0 (omega arith) a.j (omega arith)) in it))
 
 pub offset_bounds-slots-p : goal.offset_bounds-slots-p
-offset_bounds-slots-p c = let k : c.as_index-p.result < length c.fill-number.new.slots = omega (arith, c.as_index-p.ensures, (let it : c.wrap_add-at_j.result.0 < length c.args.slots.now = let a = c.args in let g = (fine_change _ _ (passed_zero _ _ c.check_change.ensures c.in_default.is)).good in omega ( arith, c.wrap_add-at_j.ensures, place-low (length a.slots.now) a.q.head.0 (omega arith) a.j (omega arith), ) in it), (let it : length c.fill-number.new.slots ≡ length c.args.slots.now = rw length-set at (ap length c.fill-number.ensures.1) in it)) in omega (arith, (let it : length c.fill-number.new.slots ≡ length c.args.slots.now = rw length-set at (ap length c.fill-number.ensures.1) in it))
+offset_bounds-slots-p c = let k : c.as_index-p.result < length c.fill-number.new.slots = omega (arith, c.as_index-p.ensures, (let it : c.wrap_add-at_j.result.0 < length c.args.slots.now = let a = c.args in let g = (fine_change _ _ (passed_zero _ _ c.check_change.ensures c.in_default.is)).good in omega (arith, c.wrap_add-at_j.ensures, place-low (length a.slots.now) a.q.head.0 (omega arith) a.j (omega arith)) in it), (let it : length c.fill-number.new.slots ≡ length c.args.slots.now = rw length-set at (ap length c.fill-number.ensures.1) in it)) in omega (arith, (let it : length c.fill-number.new.slots ≡ length c.args.slots.now = rw length-set at (ap length c.fill-number.ensures.1) in it))
 
 pub bounds-slots-p : goal.bounds-slots-p
-bounds-slots-p c = (let it : c.as_index-p.result < length c.fill-number.new.slots = omega (arith, c.as_index-p.ensures, (let it : c.wrap_add-at_j.result.0 < length c.args.slots.now = let a = c.args in let g = (fine_change _ _ (passed_zero _ _ c.check_change.ensures c.in_default.is)).good in omega ( arith, c.wrap_add-at_j.ensures, place-low (length a.slots.now) a.q.head.0 (omega arith) a.j (omega arith), ) in it), (let it : length c.fill-number.new.slots ≡ length c.args.slots.now = rw length-set at (ap length c.fill-number.ensures.1) in it)) in it)
+bounds-slots-p c = (let it : c.as_index-p.result < length c.fill-number.new.slots = omega (arith, c.as_index-p.ensures, (let it : c.wrap_add-at_j.result.0 < length c.args.slots.now = let a = c.args in let g = (fine_change _ _ (passed_zero _ _ c.check_change.ensures c.in_default.is)).good in omega (arith, c.wrap_add-at_j.ensures, place-low (length a.slots.now) a.q.head.0 (omega arith) a.j (omega arith)) in it), (let it : length c.fill-number.new.slots ≡ length c.args.slots.now = rw length-set at (ap length c.fill-number.ensures.1) in it)) in it)
 
 pub returns : goal.returns
 returns c = swapped _ _ (passed_zero _ _ c.check_change.ensures c.in_default.is) _ _

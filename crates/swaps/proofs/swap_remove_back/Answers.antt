@@ -1,14 +1,11 @@
 -- `swaps::swap_remove_back` meets its contract. Assumes nothing.
-use mathlib.Core.Path.{◌≡◌, ◌∙◌}
+use mathlib.Core.Path.{◌∙◌}
 use Prim.Native.Nat.{◌<◌, ◌-◌}
 use native.Mathlib.Omega.{arith}
-use borrow.Author.Rules.{rules}
 use lib.ListN.{length}
 use Rattle.swaps.proofs.Laws.{back_past, back_last, back_filled}
-use Rattle.queue.proofs.Checks.{passed_zero, Fine, fine_change, told_first_lem}
-use Rattle.queue.specs.Answers.{rec_of}
+use Rattle.queue.proofs.Checks.{passed_zero, fine_change, told_first_lem}
 use Rattle.rules.proofs.Places.{place-low}
-use Rattle.rules.specs.Refusals.{on_change}
 use Rattle.swaps.proofs.swap_remove_back.Goals as goal
 
 pub returns-in-Refused : goal.returns-in-Refused
@@ -32,7 +29,7 @@ pub wrap_add-requires : goal.wrap_add-requires
 wrap_add-requires c = let g = (fine_change _ _ (passed_zero _ _ c.check_change.ensures c.in_default.is)).good in omega arith
 
 pub fill-number-requires : goal.fill-number-requires
-fill-number-requires c = ((let it : c.wrap_add.result.0 < length c.args.slots.now = let a = c.args in let g = (fine_change _ _ (passed_zero _ _ c.check_change.ensures c.in_default.is)).good in omega ( arith, c.wrap_add.ensures, place-low (length a.slots.now) a.q.head.0 (omega arith) a.index (omega arith), ) in it), (let it : c.wrap_add-last.result.0 < length c.args.slots.now = let a = c.args in let g = (fine_change _ _ (passed_zero _ _ c.check_change.ensures c.in_default.is)).good in omega ( arith, c.wrap_add-last.ensures, place-low (length a.slots.now) a.q.head.0 (omega arith) (a.q.len - 1) (omega arith), ) in it))
+fill-number-requires c = ((let it : c.wrap_add.result.0 < length c.args.slots.now = let a = c.args in let g = (fine_change _ _ (passed_zero _ _ c.check_change.ensures c.in_default.is)).good in omega (arith, c.wrap_add.ensures, place-low (length a.slots.now) a.q.head.0 (omega arith) a.index (omega arith)) in it), (let it : c.wrap_add-last.result.0 < length c.args.slots.now = let a = c.args in let g = (fine_change _ _ (passed_zero _ _ c.check_change.ensures c.in_default.is)).good in omega (arith, c.wrap_add-last.ensures, place-low (length a.slots.now) a.q.head.0 (omega arith) (a.q.len - 1) (omega arith)) in it))
 
 pub returns : goal.returns
 returns c = back_filled _ _ (passed_zero _ _ c.check_change.ensures c.in_default.is)

@@ -1,14 +1,11 @@
 -- `swaps::swap_remove_front` meets its contract. Assumes nothing.
-use mathlib.Core.Path.{◌≡◌, ◌∙◌}
+use mathlib.Core.Path.{◌∙◌}
 use Prim.Native.Nat.{◌<◌}
 use native.Mathlib.Omega.{arith}
-use borrow.Author.Rules.{rules}
 use lib.ListN.{length}
 use Rattle.swaps.proofs.Laws.{front_past, front_first, front_filled}
-use Rattle.queue.proofs.Checks.{passed_zero, Fine, fine_change, told_first_lem}
-use Rattle.queue.specs.Answers.{rec_of}
+use Rattle.queue.proofs.Checks.{passed_zero, fine_change, told_first_lem}
 use Rattle.rules.proofs.Places.{place-low}
-use Rattle.rules.specs.Refusals.{on_change}
 use Rattle.swaps.proofs.swap_remove_front.Goals as goal
 
 pub returns-in-Refused : goal.returns-in-Refused

@@ -2,7 +2,6 @@
 use mathlib.Core.Path.{refl}
 use Rattle.rules.specs.Sequences.{do_on_queue}
 use Rattle.turn_changes.proofs.Known.{change_known, makes}
-use borrow.Author.Rules.{rules}
 use Rattle.turn_changes.proofs.change.Goals as goal
 
 pub returns-in-Editing : goal.returns-in-Editing

@@ -1,7 +1,6 @@
 -- `turn_changes::drain_call` meets its contract. Assumes nothing.
 use Rattle.rules.specs.Sequences.{do_on_drain}
 use Rattle.turn_changes.proofs.Known.{drain_known}
-use borrow.Author.Rules.{rules}
 use Rattle.turn_changes.proofs.drain_call.Goals as goal
 
 pub returns-in-Next : goal.returns-in-Next

@@ -1,7 +1,6 @@
 -- `turn_changes::make_edit` meets its contract. Assumes nothing.
 use Rattle.rules.specs.Calls.{rule}
 use Rattle.turn_changes.proofs.Known.{edit_known}
-use borrow.Author.Rules.{rules}
 use Rattle.turn_changes.proofs.make_edit.Goals as goal
 
 pub returns-in-PushBack : goal.returns-in-PushBack

@@ -1,7 +1,6 @@
 -- `turn_changes::make_join` meets its contract. Assumes nothing.
 use Rattle.rules.specs.Calls.{rule}
 use Rattle.turn_changes.proofs.Known.{join_known}
-use borrow.Author.Rules.{rules}
 use Rattle.turn_changes.proofs.make_join.Goals as goal
 
 pub returns-in-Extend : goal.returns-in-Extend

@@ -1,7 +1,6 @@
 -- `turn_changes::make_removal` meets its contract. Assumes nothing.
 use Rattle.rules.specs.Calls.{rule}
 use Rattle.turn_changes.proofs.Known.{removal_known}
-use borrow.Author.Rules.{rules}
 use Rattle.turn_changes.proofs.make_removal.Goals as goal
 
 pub returns-in-PopFront : goal.returns-in-PopFront

@@ -2,7 +2,6 @@
 use mathlib.Core.Path.{refl}
 use Rattle.rules.specs.Asks.{answered, count, element, ranges, spot, truth}
 use Rattle.turn_looks.proofs.Known.{ask_known}
-use borrow.Author.Rules.{rules}
 use Rattle.turn_looks.proofs.ask.Goals as goal
 
 pub returns-in-Get : goal.returns-in-Get

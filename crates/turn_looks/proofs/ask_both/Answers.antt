@@ -2,7 +2,6 @@
 use mathlib.Core.Path.{refl}
 use Rattle.rules.specs.Asks.{answered_both, ordered, truth}
 use Rattle.turn_looks.proofs.Known.{both_known}
-use borrow.Author.Rules.{rules}
 use Rattle.turn_looks.proofs.ask_both.Goals as goal
 
 pub returns-in-Eq : goal.returns-in-Eq

@@ -1,5 +1,4 @@
 -- `walks::begin_walk` meets its contract. Assumes nothing.
-use borrow.Author.Rules.{rules}
 use Rattle.queue.proofs.Checks.{failed_number, passed_zero}
 use Rattle.walks.proofs.Steps.{not_begun, begun}
 use Rattle.walks.proofs.begin_walk.Goals as goal

@@ -3,7 +3,6 @@ use mathlib.Core.Path.{sym, ap}
 use Rattle.rules.specs.Walks.{Walk}
 use Rattle.elements.specs.Answers.{of_stepped}
 use Rattle.elements.specs.declared.answers.Stepped.{Stepped}
-use borrow.Author.Rules.{rules}
 use Rattle.walks.proofs.walk_after.Goals as goal
 
 abbrev walk_in_lem : Stepped → Walk

@@ -1,10 +1,6 @@
 -- `walks::walk_next_back` meets its contract. Assumes nothing.
-use mathlib.Core.Path.{◌≡◌}
 use native.Mathlib.Omega.{arith}
-use borrow.Author.Rules.{rules}
-use lib.ListN.{length}
 use Rattle.queue.proofs.Checks.{passed_zero, failed_number}
-use Rattle.rules.specs.Walks.{on_walk}
 use Rattle.walks.proofs.Steps.{Walkable, walkable, step-refused, back, nothing_left, one_given}
 use Rattle.queue.specs.Looks.{walk_of}
 use Rattle.walks.proofs.walk_next_back.Goals as goal

@@ -2,7 +2,6 @@
 use mathlib.Core.Path.{sym, ◌∙◌, ap}
 use Rattle.elements.specs.Answers.{of_drawn}
 use Rattle.answers.proofs.Flat.{refused-number}
-use borrow.Author.Rules.{rules}
 use Rattle.answers.proofs.drains.of_drawn.Goals as goal
 
 pub returns-in-Number : goal.returns-in-Number

@@ -2,7 +2,6 @@
 use mathlib.Core.Path.{sym, ◌∙◌, ap}
 use Rattle.queue.specs.Drains.{of_opened}
 use Rattle.answers.proofs.Flat.{refused-number}
-use borrow.Author.Rules.{rules}
 use Rattle.answers.proofs.drains.of_opened.Goals as goal
 
 pub returns-in-Done : goal.returns-in-Done

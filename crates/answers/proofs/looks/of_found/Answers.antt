@@ -3,7 +3,6 @@ use Rattle.rules.specs.Asks.{element}
 use Rattle.rules.specs.Looks.{seen_as, refused_by, seen_by}
 use Rattle.elements.specs.Answers.{of_found}
 use Rattle.answers.proofs.Flat.{look_known}
-use borrow.Author.Rules.{rules}
 use Rattle.answers.proofs.looks.of_found.Goals as goal
 
 pub returns-in-Number : goal.returns-in-Number

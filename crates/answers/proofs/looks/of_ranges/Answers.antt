@@ -3,7 +3,6 @@ use Rattle.rules.specs.Asks.{ranges}
 use Rattle.rules.specs.Looks.{seen_as, refused_by, seen_by}
 use Rattle.queue.specs.Looks.{of_ranges}
 use Rattle.answers.proofs.Flat.{look_known}
-use borrow.Author.Rules.{rules}
 use Rattle.answers.proofs.looks.of_ranges.Goals as goal
 
 pub returns-in-Runs : goal.returns-in-Runs

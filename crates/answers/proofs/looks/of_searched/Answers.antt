@@ -3,7 +3,6 @@ use Rattle.rules.specs.Asks.{spot}
 use Rattle.rules.specs.Looks.{seen_as, refused_by, seen_by}
 use Rattle.queue.specs.Looks.{of_searched}
 use Rattle.answers.proofs.Flat.{look_known}
-use borrow.Author.Rules.{rules}
 use Rattle.answers.proofs.looks.of_searched.Goals as goal
 
 pub returns-in-Found : goal.returns-in-Found

@@ -3,7 +3,6 @@ use Rattle.rules.specs.Asks.{truth}
 use Rattle.rules.specs.Looks.{seen_as, refused_by, seen_by}
 use Rattle.queue.specs.Looks.{of_truth}
 use Rattle.answers.proofs.Flat.{look_known}
-use borrow.Author.Rules.{rules}
 use Rattle.answers.proofs.looks.of_truth.Goals as goal
 
 pub returns-in-Is : goal.returns-in-Is

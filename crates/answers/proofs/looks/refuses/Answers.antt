@@ -2,7 +2,6 @@
 use mathlib.Core.Option.{none}
 use mathlib.Core.Path.{ap}
 use Prim.Native.Nat.{ℕ}
-use borrow.Author.Rules.{rules}
 use Rattle.answers.proofs.looks.refuses.Goals as goal
 
 pub returns : goal.returns

@@ -2,7 +2,6 @@
 use mathlib.Core.Path.{◌∙◌}
 use Rattle.rules.specs.Sequences.{made_or}
 use Rattle.answers.proofs.Flat.{both_number, split_known}
-use borrow.Author.Rules.{rules}
 use Rattle.answers.proofs.pairs.of_split.Goals as goal
 
 pub returns-in-Done : goal.returns-in-Done

@@ -1,7 +1,6 @@
 -- `answers::number_of` meets its contract. Assumes nothing.
 use mathlib.Core.Path.{sym, ap}
 use Rattle.queue.specs.Answers.{number_of}
-use borrow.Author.Rules.{rules}
 use Rattle.answers.proofs.singles.number_of.Goals as goal
 
 pub returns-in-Slots : goal.returns-in-Slots

@@ -2,7 +2,6 @@
 use mathlib.Core.Path.{sym, ◌∙◌, ap}
 use Rattle.answers.proofs.Flat.{refused-number}
 use Rattle.queue.specs.Answers.{of_change}
-use borrow.Author.Rules.{rules}
 use Rattle.answers.proofs.singles.of_change.Goals as goal
 
 pub returns-in-Done : goal.returns-in-Done

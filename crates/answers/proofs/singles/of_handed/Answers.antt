@@ -2,7 +2,6 @@
 use mathlib.Core.Path.{sym, ◌∙◌, ap}
 use Rattle.answers.proofs.Flat.{refused-number}
 use Rattle.elements.specs.Answers.{of_handed}
-use borrow.Author.Rules.{rules}
 use Rattle.answers.proofs.singles.of_handed.Goals as goal
 
 pub returns-in-Number : goal.returns-in-Number

@@ -2,7 +2,6 @@
 use mathlib.Core.Path.{◌∙◌}
 use Rattle.rules.specs.Sequences.{made_or}
 use Rattle.answers.proofs.Flat.{refused-number, made_known}
-use borrow.Author.Rules.{rules}
 use Rattle.answers.proofs.singles.of_made.Goals as goal
 
 pub returns-in-Done : goal.returns-in-Done

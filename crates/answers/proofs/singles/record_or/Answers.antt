@@ -3,7 +3,6 @@ use mathlib.Core.Path.{ap, sym}
 use Rattle.queue.specs.Answers.{rec_of}
 use Rattle.queue.specs.Drains.{state_of}
 use Rattle.rules.specs.Replays.{rec_or}
-use borrow.Author.Rules.{rules}
 use Rattle.queue.specs.declared.records.State.{State as Kept}
 use Rattle.answers.proofs.singles.record_or.Goals as goal
 

@@ -1,11 +1,7 @@
 -- `comparisons::in_runs::common_length` meets its contract: the elements passed are in common. Assumes nothing.
-use mathlib.Core.List.{◌++◌}
 use mathlib.Core.Path.{◌∙◌, sym}
-use Prim.Native.Nat.{◌≤◌, ◌-◌, ◌<◌}
 use native.Mathlib.Omega.{arith}
-use borrow.Author.Rules.{rules}
-use lib.ListN.{length}
-use Rattle.comparisons.proofs.Common.{Passed, starts, second_ends, differs, agrees, first_ends}
+use Rattle.comparisons.proofs.Common.{starts, second_ends, differs, agrees, first_ends}
 use Rattle.comparisons.proofs.InRuns.{past_runs, within_runs}
 use Rattle.comparisons.proofs.in_runs.common_length.Goals as goal
 

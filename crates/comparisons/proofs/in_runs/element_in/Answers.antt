@@ -1,6 +1,5 @@
 -- `comparisons::in_runs::element_in` meets its contract. Assumes nothing.
 use Rattle.comparisons.proofs.InRuns.{in_front, in_back}
-use borrow.Author.Rules.{rules}
 use Rattle.comparisons.proofs.in_runs.element_in.Goals as goal
 
 pub returns-then-i-n : goal.returns-then-i-n

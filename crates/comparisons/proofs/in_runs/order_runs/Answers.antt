@@ -1,7 +1,6 @@
 -- `comparisons::in_runs::order_runs` meets its contract. Assumes nothing.
 use native.Mathlib.Omega.{arith}
 use Rattle.comparisons.proofs.InRuns.{in_both, alike-told, shorter_told, longer_told, less-told, greater-told}
-use borrow.Author.Rules.{rules}
 use Rattle.comparisons.proofs.in_runs.order_runs.Goals as goal
 
 pub returns-then-n-other_len : goal.returns-then-n-other_len

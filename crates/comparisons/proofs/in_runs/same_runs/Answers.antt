@@ -1,6 +1,5 @@
 -- `comparisons::in_runs::same_runs` meets its contract. Assumes nothing.
 use Rattle.comparisons.proofs.InRuns.{lengths_told, same-told}
-use borrow.Author.Rules.{rules}
 use Rattle.comparisons.proofs.in_runs.same_runs.Goals as goal
 
 pub returns-then-len-other_len : goal.returns-then-len-other_len

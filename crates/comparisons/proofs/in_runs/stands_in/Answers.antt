@@ -1,12 +1,11 @@
 -- `comparisons::in_runs::stands_in` meets its contract: the runs passed, and the elements passed of the run at hand,
 -- are not x. Assumes nothing.
 use mathlib.Core.Bool.{false}
-use mathlib.Core.Logic.{◌⊎◌, ⊎_elim, inl, inr}
+use mathlib.Core.Logic.{⊎_elim, inl, inr}
 use mathlib.Core.Path.{◌≡◌, ap}
-use Prim.Native.Nat.{◌≤◌, ◌*◌, ◌<◌, ◌^◌, ℕ, ◌-◌}
+use Prim.Native.Nat.{◌<◌}
 use native.Mathlib.Omega.{arith}
 use borrow.Author.Count.{below_none, below_more}
-use borrow.Author.Rules.{rules}
 use lib.ListN.{length, get_or}
 use Rattle.comparisons.proofs.Has.{has_none, no_hit, hit_front, hit_back}
 use Rattle.rules.specs.Looks.{has}
@@ -19,12 +18,12 @@ walk-init c = (omega arith, λ h. absurd (omega arith), λ h. absurd (omega arit
 pub loop-i-init : goal.loop-i-init
 loop-i-init c =
     elim c.if-run-eq0.branch [
-      then-run-eq0 w ↦
-        let e : c.if-run-eq0.s.now ≡ c.args.front.now = ap (λ x. x.now) w.s-is in
-        (omega arith, rw e c.well_formed.0.1, below_none _, inl (w.if-run-eq0.true, e))
-    | else-run-eq0 w ↦
-        let e : c.if-run-eq0.s.now ≡ c.args.back.now = ap (λ x. x.now) w.s-is in
-        (omega arith, rw e c.well_formed.1.0.1, below_none _, inr (omega arith, e))
+      | then-run-eq0 w ↦
+          let e : c.if-run-eq0.s.now ≡ c.args.front.now = ap (λ x. x.now) w.s-is in
+          (omega arith, rw e c.well_formed.0.1, below_none _, inl (w.if-run-eq0.true, e))
+      | else-run-eq0 w ↦
+          let e : c.if-run-eq0.s.now ≡ c.args.back.now = ap (λ x. x.now) w.s-is in
+          (omega arith, rw e c.well_formed.1.0.1, below_none _, inr (omega arith, e))
     ]
 
 pub loop-i-preserved : goal.loop-i-preserved

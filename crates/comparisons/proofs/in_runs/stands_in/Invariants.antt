@@ -1,14 +1,10 @@
 -- `comparisons::in_runs::stands_in` meets its contract: the runs passed, and the elements passed of the run at hand,
 -- are not x. Assumes nothing.
 use mathlib.Core.Bool.{false}
-use mathlib.Core.Logic.{◌⊎◌, ⊎_elim, inl, inr}
-use mathlib.Core.Path.{◌≡◌, ap}
+use mathlib.Core.Logic.{◌⊎◌}
+use mathlib.Core.Path.{◌≡◌}
 use Prim.Native.Nat.{◌≤◌, ◌*◌, ◌<◌, ◌^◌, ℕ, ◌-◌}
-use native.Mathlib.Omega.{arith}
-use borrow.Author.Count.{below_none, below_more}
-use borrow.Author.Rules.{rules}
 use lib.ListN.{length, get_or}
-use Rattle.comparisons.proofs.Has.{has_none, no_hit, hit_front, hit_back}
 use Rattle.rules.specs.Looks.{has}
 use Rattle.comparisons.proofs.in_runs.stands_in.Given as goal
 

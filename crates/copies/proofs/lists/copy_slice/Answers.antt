@@ -1,7 +1,6 @@
 -- `copies::lists::copy_slice` meets its contract. Assumes nothing.
 use native.Mathlib.Omega.{arith}
 use Rattle.stretches.proofs.Parts.{part-back}
-use borrow.Author.Rules.{rules}
 use Rattle.copies.proofs.lists.copy_slice.Goals as goal
 
 pub copy_slice_apart-requires : goal.copy_slice_apart-requires

@@ -6,7 +6,6 @@ use lib.ListN.{take, length, length-take, length-drop}
 use lib.Seq.{length-take-le}
 use Rattle.stretches.proofs.Parts.{part-back, two_parts, cut}
 use Rattle.rules.specs.Slots.{lay}
-use borrow.Author.Rules.{rules}
 use Rattle.copies.proofs.lists.copy_slice_apart.Goals as goal
 
 pub slice_bounds-copy_in-end-2 : goal.slice_bounds-copy_in-end-2

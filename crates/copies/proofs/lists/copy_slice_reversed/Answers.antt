@@ -7,7 +7,6 @@ use lib.ListN.{take, drop, length, length-take, length-drop, length-reverse}
 use lib.Seq.{length-take-le}
 use Rattle.stretches.proofs.Parts.{part-back, two_parts, cut}
 use Rattle.rules.specs.Slots.{lay}
-use borrow.Author.Rules.{rules}
 use Rattle.copies.proofs.lists.copy_slice_reversed.Goals as goal
 
 pub slice_bounds-copy_in_reversed-end-else-n-head_room-3 : goal.slice_bounds-copy_in_reversed-end-else-n-head_room-3

@@ -5,7 +5,6 @@ use native.Mathlib.Omega.{arith}
 use lib.ListN.{length, replicate, length-replicate, replicate-append-replicate}
 use Rattle.stretches.proofs.Parts.{part-back, two_parts}
 use Rattle.rules.specs.Slots.{lay}
-use borrow.Author.Rules.{rules}
 use Rattle.copies.proofs.lists.fill_slots.Goals as goal
 
 pub returns-then-len-head_room : goal.returns-then-len-head_room

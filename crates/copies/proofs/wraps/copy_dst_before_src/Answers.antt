@@ -1,7 +1,6 @@
 -- `copies::wraps::copy_dst_before_src` meets its contract: what
 -- is copied later was not overwritten before. Assumes nothing.
 use native.Mathlib.Omega.{arith}
-use borrow.Author.Rules.{rules}
 use Rattle.copies.proofs.Overlaps.{dst_wraps, behind, up_both}
 use Rattle.stretches.proofs.Order.{way, on, over, up}
 use Rattle.copies.proofs.wraps.copy_dst_before_src.Goals as goal

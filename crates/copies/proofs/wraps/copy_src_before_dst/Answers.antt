@@ -1,7 +1,6 @@
 -- `copies::wraps::copy_src_before_dst` meets its contract: what
 -- is copied later was not overwritten before. Assumes nothing.
 use native.Mathlib.Omega.{arith}
-use borrow.Author.Rules.{rules}
 use Rattle.copies.proofs.Overlaps.{dst_wraps, ahead, down_both}
 use Rattle.stretches.proofs.Order.{way, on, over, down}
 use Rattle.copies.proofs.wraps.copy_src_before_dst.Goals as goal

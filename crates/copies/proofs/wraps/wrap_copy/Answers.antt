@@ -1,6 +1,5 @@
 -- `copies::wraps::wrap_copy` meets its contract. Assumes nothing.
 use native.Mathlib.Omega.{arith}
-use borrow.Author.Rules.{rules}
 use Rattle.copies.proofs.Overlaps.{src_past, dst_past}
 use Rattle.copies.proofs.wraps.wrap_copy.Goals as goal
 

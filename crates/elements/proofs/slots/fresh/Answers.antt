@@ -1,6 +1,5 @@
 -- `elements::fresh` meets its contract: one law for each return. Assumes nothing.
 use native.Mathlib.Omega.{arith}
-use borrow.Author.Rules.{rules}
 use Rattle.queue.specs.Answers.{number_of}
 use Rattle.rules.proofs.Makes.{fresh-refused, fresh-made}
 use Rattle.elements.proofs.slots.fresh.Goals as goal

@@ -1,9 +1,6 @@
 -- `ends::truncate` meets its contract. Assumes nothing.
-use Rattle.std.proofs.Common.{◌≡◌, length, rules}
 use Rattle.ends.proofs.cuts.Laws.{all_kept, back_cut}
 use Rattle.queue.proofs.Checks.{passed_zero, told_first_lem}
-use Rattle.queue.specs.Answers.{rec_of}
-use Rattle.rules.specs.Refusals.{on_change}
 use Rattle.ends.proofs.cuts.truncate.Goals as goal
 
 pub returns-in-Refused : goal.returns-in-Refused

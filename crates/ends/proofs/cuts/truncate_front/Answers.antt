@@ -1,9 +1,7 @@
 -- `ends::truncate_front` meets its contract. Assumes nothing.
-use Rattle.std.proofs.Common.{◌≡◌, length, arith, rules}
+use Rattle.std.proofs.Common.{arith}
 use Rattle.ends.proofs.cuts.Laws.{front_kept, front_cut}
-use Rattle.queue.proofs.Checks.{passed_zero, Fine, fine_change, told_first_lem}
-use Rattle.queue.specs.Answers.{rec_of}
-use Rattle.rules.specs.Refusals.{on_change}
+use Rattle.queue.proofs.Checks.{passed_zero, fine_change, told_first_lem}
 use Rattle.ends.proofs.cuts.truncate_front.Goals as goal
 
 pub returns-in-Refused : goal.returns-in-Refused

@@ -1,5 +1,5 @@
 -- `ends::back` meets its contract. Assumes nothing.
-use Rattle.std.proofs.Common.{◌∙◌, arith, rules}
+use Rattle.std.proofs.Common.{◌∙◌, arith}
 use Rattle.ends.proofs.looks.Laws.{last_wrapped}
 use Rattle.ends.proofs.looks.back.Goals as goal
 

@@ -1,5 +1,4 @@
 -- `ends::only_if` meets its contract. Assumes nothing.
-use Rattle.std.proofs.Common.{rules}
 use Rattle.ends.proofs.pops.Conditional.{kept, dropped, nothing, passed_on}
 use Rattle.ends.proofs.pops.only_if.Goals as goal
 

@@ -1,5 +1,4 @@
 -- `ends::pop_back_if` meets its contract. Assumes nothing.
-use Rattle.std.proofs.Common.{rules}
 use Rattle.ends.proofs.pops.Conditional.{back_only_if}
 use Rattle.ends.proofs.pops.pop_back_if.Goals as goal
 

@@ -1,9 +1,7 @@
 -- `ends::pop_front` meets its contract. Assumes nothing.
-use Rattle.std.proofs.Common.{◌≡◌, ◌<◌, length, refl, arith, rules}
+use Rattle.std.proofs.Common.{◌<◌, length, refl, arith}
 use Rattle.ends.proofs.pops.Laws.{front_none, front_popped}
-use Rattle.queue.proofs.Checks.{passed_zero, Fine, fine_change, told_first_lem}
-use Rattle.queue.specs.Answers.{rec_of}
-use Rattle.rules.specs.Refusals.{on_change}
+use Rattle.queue.proofs.Checks.{passed_zero, fine_change, told_first_lem}
 use Rattle.ends.proofs.pops.pop_front.Goals as goal
 
 pub returns-in-Refused : goal.returns-in-Refused

@@ -1,5 +1,4 @@
 -- `ends::pop_front_if` meets its contract. Assumes nothing.
-use Rattle.std.proofs.Common.{rules}
 use Rattle.ends.proofs.pops.Conditional.{front_only_if}
 use Rattle.ends.proofs.pops.pop_front_if.Goals as goal
 

@@ -1,15 +1,11 @@
 -- `joins::queues::append` meets its contract. Assumes nothing.
-use mathlib.Core.Path.{◌≡◌}
 use native.Mathlib.Omega.{arith}
-use lib.ListN.{length}
 use Rattle.extends.proofs.Asks.{Appends, appends}
 use Rattle.joins.proofs.Pairs.{append-refused, append-done}
 use Rattle.queue.proofs.Checks.{passed_zero}
 use Rattle.rules.proofs.Refusals.{change_queue}
 use Rattle.queue.specs.Answers.{rec_of}
 use Rattle.rules.proofs.Places.{place_good}
-use Rattle.rules.specs.Pairs.{on_appending}
-use borrow.Author.Rules.{rules}
 use Rattle.joins.proofs.queues.append.Goals as goal
 
 pub returns-in-Refused : goal.returns-in-Refused

@@ -1,13 +1,9 @@
 -- `joins::queues::check_append` meets its contract. Assumes nothing.
-use mathlib.Core.Path.{◌≡◌}
 use native.Mathlib.Omega.{arith}
-use borrow.Author.Rules.{rules}
 use Rattle.extends.proofs.Asks.{queue-refuses, queue-passes, room-refuses, room-passes}
 use Rattle.queue.proofs.Checks.{passed_zero}
-use Rattle.queue.specs.Answers.{rec_of}
 use Rattle.rules.proofs.Refusals.{change_ok}
 use Rattle.rules.specs.Pairs.{on_appending}
-use Rattle.rules.specs.Refusals.{on_change}
 use Rattle.joins.proofs.queues.check_append.Goals as goal
 
 pub returns-in-Refused : goal.returns-in-Refused

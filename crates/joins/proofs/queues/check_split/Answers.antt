@@ -1,12 +1,8 @@
 -- `joins::queues::check_split` meets its contract. Assumes nothing.
-use mathlib.Core.Path.{◌≡◌}
 use native.Mathlib.Omega.{arith}
-use borrow.Author.Rules.{rules}
 use Rattle.extends.proofs.Asks.{queue-refuses, queue-passes, slots_refuse, slots_pass, position-refuses, position-passes, room-refuses, room-passes}
 use Rattle.queue.proofs.Checks.{passed_zero}
-use Rattle.queue.specs.Answers.{rec_of}
 use Rattle.rules.specs.Pairs.{on_splitting}
-use Rattle.rules.specs.Refusals.{on_change}
 use Rattle.joins.proofs.queues.check_split.Goals as goal
 
 pub returns-in-Refused : goal.returns-in-Refused

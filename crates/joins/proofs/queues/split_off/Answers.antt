@@ -1,14 +1,10 @@
 -- `joins::queues::split_off` meets its contract. Assumes nothing.
-use mathlib.Core.Path.{◌≡◌}
 use native.Mathlib.Omega.{arith}
-use lib.ListN.{length}
 use Rattle.extends.proofs.Asks.{Splits, splits}
 use Rattle.joins.proofs.Pairs.{split_refused, split_done}
 use Rattle.queue.proofs.Checks.{passed_zero}
 use Rattle.rules.proofs.Refusals.{change_queue}
 use Rattle.queue.specs.Answers.{rec_of}
-use Rattle.rules.specs.Pairs.{on_splitting}
-use borrow.Author.Rules.{rules}
 use Rattle.joins.proofs.queues.split_off.Goals as goal
 
 pub returns-in-Refused : goal.returns-in-Refused

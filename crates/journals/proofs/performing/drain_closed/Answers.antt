@@ -2,7 +2,6 @@
 use mathlib.Core.Path.{ap}
 use Rattle.journals.proofs.Performs.{stays-shut, opens_closes}
 use Rattle.queue.specs.Drains.{state_of}
-use borrow.Author.Rules.{rules}
 use Rattle.journals.proofs.performing.drain_closed.Goals as goal
 
 pub returns-in-Shut : goal.returns-in-Shut

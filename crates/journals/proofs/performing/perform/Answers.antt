@@ -1,8 +1,7 @@
 -- `journals::performing::perform` meets its contract. Assumes nothing.
-use mathlib.Core.Path.{◌≡◌, refl, sym, ◌∙◌, ap}
+use mathlib.Core.Path.{refl}
 use Rattle.journals.proofs.Performs.{performs}
 use Rattle.rules.specs.Journals.{do_entry}
-use borrow.Author.Rules.{rules}
 use Rattle.journals.proofs.performing.perform.Goals as goal
 
 pub returns-in-PushBack : goal.returns-in-PushBack

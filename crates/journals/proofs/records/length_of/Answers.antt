@@ -1,7 +1,7 @@
 -- `journals::records::length_of` meets its contract. Assumes nothing.
-use mathlib.Core.Path.{◌≡◌, refl, sym, ◌∙◌, ap}
+use mathlib.Core.Path.{◌≡◌, refl, sym, ap}
 use native.Mathlib.Omega.{arith}
-use Prim.Native.Nat.{ℕ, ◌≤◌, ◌+◌}
+use Prim.Native.Nat.{ℕ}
 use Rattle.rules.specs.Choices.{whether}
 use mathlib.Core.Logic.{◌≢◌, ⊎_elim, inl, inr}
 use Rattle.journals.proofs.RecordBytes.{either_of, unknown}

@@ -1,10 +1,9 @@
 -- `journals::records::operation_at` meets its contract. Assumes nothing.
-use mathlib.Core.Path.{◌≡◌, refl, sym, ◌∙◌, ap}
+use mathlib.Core.Path.{◌≡◌, sym, ◌∙◌, ap}
 use native.Mathlib.Omega.{arith}
-use Prim.Native.Nat.{ℕ, ◌≤◌, ◌+◌}
+use Prim.Native.Nat.{ℕ, ◌+◌}
 use Rattle.journals.proofs.RecordBytes.{the_longest}
 use Rattle.rules.specs.Journals.{entry_of, word_at}
-use borrow.Author.Rules.{rules}
 use Rattle.journals.proofs.records.operation_at.Goals as goal
 
 pub returns-then-n-eq2 : goal.returns-then-n-eq2

@@ -1,10 +1,7 @@
 -- `journals::records::record_at` meets its contract. Assumes nothing.
-use mathlib.Core.Path.{◌≡◌, refl, sym, ◌∙◌, ap}
+use mathlib.Core.Path.{refl, sym, ◌∙◌}
 use native.Mathlib.Omega.{arith}
-use mathlib.Core.Bool.{true}
 use Rattle.journals.proofs.RecordBytes.{at_end, cut_in_length, cut_in_version, wrong_version, cut_in_operation, wrong_operation, cut_in_operands, takes, wrong_length, short_length}
-use Rattle.rules.specs.Journals.{some_length}
-use borrow.Author.Rules.{rules}
 use Rattle.journals.proofs.records.record_at.Goals as goal
 
 pub returns-then-size-at : goal.returns-then-size-at

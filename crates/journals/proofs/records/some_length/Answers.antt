@@ -1,5 +1,5 @@
 -- `journals::records::some_length` meets its contract. Assumes nothing.
-use mathlib.Core.Path.{◌≡◌, refl, sym, ◌∙◌, ap}
+use mathlib.Core.Path.{sym, ap}
 use Rattle.journals.proofs.RecordBytes.{only_ten}
 use Rattle.rules.specs.Journals.{some_length}
 use Rattle.journals.proofs.records.some_length.Goals as goal

@@ -1,7 +1,6 @@
 -- `lines::decimals::put_decimal` meets its contract. Assumes nothing.
 use native.Mathlib.Omega.{arith}
 use Rattle.lines.proofs.Digits.{twenty_digits}
-use borrow.Author.Rules.{rules}
 use Rattle.lines.proofs.decimals.put_decimal.Goals as goal
 
 pub put_digits-requires : goal.put_digits-requires

@@ -1,7 +1,6 @@
 -- `lines::lines::answer_line` meets its contract. Assumes nothing.
 use native.Mathlib.Omega.{arith}
 use Rattle.lines.proofs.Words.{puts-answer}
-use borrow.Author.Rules.{rules}
 use Rattle.lines.proofs.lines.answer_line.Goals as goal
 
 pub returns : goal.returns

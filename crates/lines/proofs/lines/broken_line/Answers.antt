@@ -1,7 +1,6 @@
 -- `lines::lines::broken_line` meets its contract. Assumes nothing.
 use native.Mathlib.Omega.{arith}
 use Rattle.lines.proofs.Words.{puts-broken}
-use borrow.Author.Rules.{rules}
 use Rattle.lines.proofs.lines.broken_line.Goals as goal
 
 pub returns : goal.returns

@@ -1,12 +1,11 @@
 -- `lines::lines::put_given` meets its contract. Assumes nothing.
 use native.Mathlib.Omega.{arith}
-use mathlib.Core.Path.{◌≡◌, refl, sym, ◌∙◌, ap}
+use mathlib.Core.Path.{sym, ap}
 use Rattle.elements.specs.Answers.{of_given}
 use Rattle.elements.specs.declared.answers.Given.{Given}
 use mathlib.Core.List.{◌∷◌}
 use Rattle.lines.proofs.Puts.{puts_as}
 use Rattle.rules.specs.Replays.{space, number_or_none}
-use borrow.Author.Rules.{rules}
 use Rattle.lines.proofs.lines.put_given.Goals as goal
 
 pub returns-in-Number : goal.returns-in-Number

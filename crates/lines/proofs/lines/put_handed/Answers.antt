@@ -2,7 +2,6 @@
 use native.Mathlib.Omega.{arith}
 use Rattle.elements.specs.Answers.{of_given}
 use Rattle.lines.proofs.Words.{says, says_nothing}
-use borrow.Author.Rules.{rules}
 use mathlib.Core.Logic.{⊎_elim}
 use Rattle.lines.proofs.lines.put_handed.Goals as goal
 

@@ -3,7 +3,6 @@ use native.Mathlib.Omega.{arith}
 use lib.ListN.{length-set}
 use mathlib.Core.Path.{refl}
 use Rattle.lines.proofs.Puts.{puts_one, puts_more}
-use borrow.Author.Rules.{rules}
 use Rattle.lines.proofs.lines.put_none.Goals as goal
 
 pub bounds-out-at-2 : goal.bounds-out-at-2

@@ -1,7 +1,6 @@
 -- `lines::lines::put_numbers` meets its contract. Assumes nothing.
 use native.Mathlib.Omega.{arith}
 use Rattle.lines.proofs.Words.{puts-numbers}
-use borrow.Author.Rules.{rules}
 use Rattle.lines.proofs.lines.put_numbers.Goals as goal
 
 pub returns : goal.returns

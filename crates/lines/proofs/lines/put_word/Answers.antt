@@ -1,10 +1,9 @@
 -- `lines::lines::put_word` meets its contract. Assumes nothing.
 use native.Mathlib.Omega.{arith}
-use mathlib.Core.Path.{◌≡◌, refl, sym, ◌∙◌, ap}
+use mathlib.Core.Path.{refl, ◌∙◌}
 use Prim.Native.Nat.{◌+◌}
 use lib.ListN.{length-set}
 use Rattle.lines.proofs.Puts.{puts_one, puts-append}
-use borrow.Author.Rules.{rules}
 use Rattle.lines.proofs.lines.put_word.Goals as goal
 
 pub put_decimal-requires : goal.put_decimal-requires

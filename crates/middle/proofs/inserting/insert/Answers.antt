@@ -1,12 +1,7 @@
 -- `middle::insert` meets its contract. Assumes nothing.
-use mathlib.Core.Path.{◌≡◌}
 use native.Mathlib.Omega.{arith}
-use borrow.Author.Rules.{rules}
-use lib.ListN.{length}
 use Rattle.middle.proofs.Inserts.{insert_past, insert_full, inserted_later, inserted_earlier}
-use Rattle.queue.proofs.Checks.{passed_zero, Fine, fine_change, told_first_lem}
-use Rattle.queue.specs.Answers.{rec_of}
-use Rattle.rules.specs.Refusals.{on_change}
+use Rattle.queue.proofs.Checks.{passed_zero, fine_change, told_first_lem}
 use Rattle.middle.proofs.inserting.insert.Goals as goal
 
 pub returns-in-Refused : goal.returns-in-Refused

@@ -1,14 +1,11 @@
 -- `middle::remove` meets its contract. Assumes nothing.
-use mathlib.Core.Path.{◌≡◌, ◌∙◌, refl}
+use mathlib.Core.Path.{◌∙◌, refl}
 use Prim.Native.Nat.{◌<◌}
 use native.Mathlib.Omega.{arith}
-use borrow.Author.Rules.{rules}
 use lib.ListN.{length}
 use Rattle.middle.proofs.Removes.{remove_none, removed_later, removed_earlier}
-use Rattle.queue.proofs.Checks.{passed_zero, Fine, fine_change, told_first_lem}
-use Rattle.queue.specs.Answers.{rec_of}
+use Rattle.queue.proofs.Checks.{passed_zero, fine_change, told_first_lem}
 use Rattle.rules.proofs.Places.{place-low}
-use Rattle.rules.specs.Refusals.{on_change}
 use Rattle.middle.proofs.removing.remove.Goals as goal
 
 pub returns-in-Refused : goal.returns-in-Refused
@@ -24,10 +21,10 @@ pub wrap_add-at-requires : goal.wrap_add-at-requires
 wrap_add-at-requires c = let g = (fine_change _ _ (passed_zero _ _ c.check_change.ensures c.in_default.is)).good in omega arith
 
 pub offset_bounds-slots-i : goal.offset_bounds-slots-i
-offset_bounds-slots-i c = let k : c.as_index-i.result < length c.args.slots.now = let a = c.args in let g = (fine_change _ _ (passed_zero _ _ c.check_change.ensures c.in_default.is)).good in omega ( arith, c.as_index-i.ensures, c.wrap_add-at.ensures, place-low (length a.slots.now) a.q.head.0 (omega arith) a.index (omega arith), ) in omega arith
+offset_bounds-slots-i c = let k : c.as_index-i.result < length c.args.slots.now = let a = c.args in let g = (fine_change _ _ (passed_zero _ _ c.check_change.ensures c.in_default.is)).good in omega (arith, c.as_index-i.ensures, c.wrap_add-at.ensures, place-low (length a.slots.now) a.q.head.0 (omega arith) a.index (omega arith)) in omega arith
 
 pub bounds-slots-i : goal.bounds-slots-i
-bounds-slots-i c = (let it : c.as_index-i.result < length c.args.slots.now = let a = c.args in let g = (fine_change _ _ (passed_zero _ _ c.check_change.ensures c.in_default.is)).good in omega ( arith, c.as_index-i.ensures, c.wrap_add-at.ensures, place-low (length a.slots.now) a.q.head.0 (omega arith) a.index (omega arith), ) in it)
+bounds-slots-i c = (let it : c.as_index-i.result < length c.args.slots.now = let a = c.args in let g = (fine_change _ _ (passed_zero _ _ c.check_change.ensures c.in_default.is)).good in omega (arith, c.as_index-i.ensures, c.wrap_add-at.ensures, place-low (length a.slots.now) a.q.head.0 (omega arith) a.index (omega arith)) in it)
 
 pub remove_later-requires : goal.remove_later-requires
 remove_later-requires c = let g = (fine_change _ _ (passed_zero _ _ c.check_change.ensures c.in_default.is)).good in let f = (fine_change _ _ (passed_zero _ _ c.check_change.ensures c.in_default.is)).few in omega arith

@@ -1,6 +1,5 @@
 -- `middle::remove_earlier` meets its contract. Assumes nothing.
 use native.Mathlib.Omega.{arith}
-use borrow.Author.Rules.{rules}
 use lib.ListN.{length}
 use Rattle.middle.proofs.Room.{overlap_on, earlier_closed}
 use Rattle.rules.proofs.Places.{place-low}

@@ -1,7 +1,6 @@
 -- `middle::remove_later` meets its contract. Assumes nothing.
 use Prim.Native.Nat.{◌+◌}
 use native.Mathlib.Omega.{arith}
-use borrow.Author.Rules.{rules}
 use lib.ListN.{length}
 use Rattle.middle.proofs.Room.{overlap_prior, later_closed}
 use Rattle.rules.proofs.Places.{place-low}
@@ -15,8 +14,11 @@ wrap_copy-requires c =
     let s = low (a.index + 1) (omega arith) in
     let d = low a.index (omega arith) in
     let f = c.wrap_add-from.ensures in
-    let g = c.wrap_add-to.ensures in record { src_in_bounds = omega arith; one_overlap = overlap_prior (length a.slots.now) a.head.0 _ p.0 (omega arith) a.index _ _
-          (omega arith) g f }
+    let g = c.wrap_add-to.ensures in record {
+      src_in_bounds = omega arith;
+      one_overlap = overlap_prior (length a.slots.now) a.head.0 _ p.0 (omega arith) a.index _ _
+          (omega arith) g f;
+    }
 
 pub returns : goal.returns
 returns c =

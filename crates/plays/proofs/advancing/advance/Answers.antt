@@ -1,12 +1,10 @@
 -- `plays::advancing::advance` meets its contract: the steps done, and those that are left. Assumes nothing.
 use Prim.Native.Nat.{ℕ, suc, ◌+◌, ◌-◌, ◌<◌, ◌≤◌}
-use mathlib.Core.Path.{◌≡◌, refl, sym, ◌∙◌, ap}
+use mathlib.Core.Path.{◌≡◌, refl, ◌∙◌}
 use native.Mathlib.Omega.{arith}
 use lib.ListN.{length}
 use borrow.Author.Rules.{rules}
-use Rattle.plays.proofs.Calls.{Going, going_start, going_more, going_quiet, going_over, all_done}
-use Rattle.plays.specs.Pieces.{advanced}
-use Rattle.plays.specs.Playing.{Within, play_of}
+use Rattle.plays.proofs.Calls.{going_start, going_more, going_quiet, going_over, all_done}
 use Rattle.plays.proofs.advancing.advance.Goals as goal
 
 -- a step is left where the counter is low

@@ -1,10 +1,8 @@
 -- `plays::advancing::advance` meets its contract: the steps done, and those that are left. Assumes nothing.
-use Prim.Native.Nat.{ℕ, suc, ◌+◌, ◌-◌, ◌<◌, ◌≤◌}
-use mathlib.Core.Path.{◌≡◌, refl, sym, ◌∙◌, ap}
-use native.Mathlib.Omega.{arith}
+use Prim.Native.Nat.{◌-◌, ◌≤◌}
+use mathlib.Core.Path.{◌≡◌}
 use lib.ListN.{length}
-use borrow.Author.Rules.{rules}
-use Rattle.plays.proofs.Calls.{Going, going_start, going_more, going_quiet, going_over, all_done}
+use Rattle.plays.proofs.Calls.{Going}
 use Rattle.plays.specs.Pieces.{advanced}
 use Rattle.plays.specs.Playing.{Within, play_of}
 use Rattle.plays.proofs.advancing.advance.Given as goal

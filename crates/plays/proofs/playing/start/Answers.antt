@@ -1,6 +1,5 @@
 -- `plays::playing::start` meets its contract. Assumes nothing.
 use Rattle.rules.specs.WholeReplay.{starting, in_records}
-use borrow.Author.Rules.{rules}
 use Rattle.plays.proofs.playing.start.Goals as goal
 
 pub returns : goal.returns

@@ -2,7 +2,6 @@
 use native.Mathlib.Omega.{arith}
 use Rattle.plays.proofs.Done.{does_ending}
 use Rattle.plays.specs.Pieces.{begin_last}
-use borrow.Author.Rules.{rules}
 use Rattle.plays.proofs.steps.begin_last.Goals as goal
 
 pub returns : goal.returns

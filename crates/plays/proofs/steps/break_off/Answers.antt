@@ -1,7 +1,6 @@
 -- `plays::steps::break_off` meets its contract. Assumes nothing.
 use native.Mathlib.Omega.{arith}
 use Rattle.plays.proofs.Done.{does_break, does_then}
-use borrow.Author.Rules.{rules}
 use Rattle.plays.proofs.steps.break_off.Goals as goal
 
 pub returns : goal.returns

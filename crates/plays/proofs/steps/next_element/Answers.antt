@@ -3,7 +3,6 @@ use native.Mathlib.Omega.{arith}
 use Rattle.plays.proofs.Done.{does_ending, does_as}
 use Rattle.plays.proofs.Elements.{at_element, at_newline, element-low}
 use Rattle.plays.specs.Playing.{play_of}
-use borrow.Author.Rules.{rules}
 use Rattle.plays.proofs.steps.next_element.Goals as goal
 
 pub overflow_add-result : goal.overflow_add-result

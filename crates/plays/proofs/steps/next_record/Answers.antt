@@ -1,11 +1,10 @@
 -- `plays::steps::next_record` meets its contract. Assumes nothing.
-use mathlib.Core.Path.{◌≡◌, refl, sym, ◌∙◌, ap}
+use mathlib.Core.Path.{sym, ◌∙◌, ap}
 use native.Mathlib.Omega.{arith}
-use Rattle.journals.specs.Records.{entry_for, of_record}
+use Rattle.journals.specs.Records.{of_record}
 use Rattle.plays.proofs.Done.{does_as, does_nothing, does_unused, within_record, begins_unused, breaks_unused, plays_one, at_got, cut_off, cut_waits, end_told, end_waits}
 use Rattle.plays.proofs.Records.{taken_ends}
 use Rattle.plays.specs.Pieces.{do_got}
-use borrow.Author.Rules.{rules}
 use Rattle.plays.proofs.steps.next_record.Goals as goal
 
 pub play_record-requires : goal.play_record-requires

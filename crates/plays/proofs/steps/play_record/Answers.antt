@@ -1,7 +1,6 @@
 -- `plays::steps::play_record` meets its contract. Assumes nothing.
 use native.Mathlib.Omega.{arith}
 use Rattle.plays.proofs.Done.{does_record}
-use borrow.Author.Rules.{rules}
 use Rattle.plays.proofs.steps.play_record.Goals as goal
 
 pub returns : goal.returns

@@ -1,11 +1,10 @@
 -- `plays::steps::step` meets its contract. Assumes nothing.
-use mathlib.Core.Path.{◌≡◌, refl, sym, ◌∙◌, ap}
+use mathlib.Core.Path.{ap}
 use native.Mathlib.Omega.{arith}
 use Rattle.plays.proofs.Done.{does_as, does_nothing, does_unused, no_room, goes}
 use Rattle.plays.proofs.Elements.{word_uses}
 use Rattle.plays.specs.Pieces.{next}
 use Rattle.plays.specs.Playing.{stage_of}
-use borrow.Author.Rules.{rules}
 use Rattle.plays.proofs.steps.step.Goals as goal
 
 pub returns-then-out-before-lt105 : goal.returns-then-out-before-lt105

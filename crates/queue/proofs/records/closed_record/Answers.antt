@@ -1,5 +1,4 @@
 -- `queue::closed_record` meets its contract. Assumes nothing.
-use borrow.Author.Rules.{rules}
 use Rattle.queue.proofs.records.closed_record.Goals as goal
 
 pub returns : goal.returns

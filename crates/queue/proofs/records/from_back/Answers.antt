@@ -1,5 +1,4 @@
 -- `queue::from_back` meets its contract. Assumes nothing.
-use borrow.Author.Rules.{rules}
 use Rattle.rules.specs.Drains.{from_back}
 use Rattle.queue.proofs.records.from_back.Goals as goal
 

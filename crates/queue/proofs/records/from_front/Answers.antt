@@ -1,5 +1,4 @@
 -- `queue::from_front` meets its contract. Assumes nothing.
-use borrow.Author.Rules.{rules}
 use Rattle.rules.specs.Drains.{from_front}
 use Rattle.queue.proofs.records.from_front.Goals as goal
 

@@ -1,5 +1,4 @@
 -- `queue::head_over` meets its contract. Assumes nothing.
-use borrow.Author.Rules.{rules}
 use borrow.Author.Tests.{ne_eqb}
 use Rattle.rules.specs.Choices.{whether}
 use Rattle.queue.proofs.records.head_over.Goals as goal

@@ -1,5 +1,4 @@
 -- `queue::new_record` meets its contract. Assumes nothing.
-use borrow.Author.Rules.{rules}
 use Rattle.rules.specs.Records.{new_rec}
 use Rattle.queue.proofs.records.new_record.Goals as goal
 

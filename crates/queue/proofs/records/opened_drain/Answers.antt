@@ -1,6 +1,5 @@
 -- `queue::opened_drain` meets its contract. Assumes nothing.
 use mathlib.Core.Path.{refl}
-use borrow.Author.Rules.{rules}
 use Rattle.rules.specs.Drains.{opened}
 use Rattle.queue.proofs.records.opened_drain.Goals as goal
 

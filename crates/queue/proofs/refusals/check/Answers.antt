@@ -1,7 +1,6 @@
 -- `queue::check` meets its contract: one law for each return. Assumes nothing.
 use mathlib.Core.Path.{sym, ◌∙◌}
 use native.Mathlib.Omega.{arith}
-use borrow.Author.Rules.{rules}
 use Rattle.queue.proofs.Checks.{slots_checked, good_checked, record_checked}
 use Rattle.queue.proofs.refusals.check.Goals as goal
 

@@ -1,6 +1,5 @@
 -- `queue::check_change` meets its contract: one law for each return. Assumes nothing.
 use mathlib.Core.Path.{◌∙◌}
-use borrow.Author.Rules.{rules}
 use Rattle.queue.proofs.Checks.{first_checked, open_checked, unmarked_asks}
 use Rattle.queue.proofs.refusals.check_change.Goals as goal
 

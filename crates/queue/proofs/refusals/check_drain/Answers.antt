@@ -1,7 +1,6 @@
 -- `queue::check_drain` meets its contract. Assumes nothing.
 use mathlib.Core.Path.{sym, ◌∙◌}
 use native.Mathlib.Omega.{arith}
-use borrow.Author.Rules.{rules}
 use Rattle.queue.proofs.DrainChecks.{slots_checked, good_checked, record_checked}
 use Rattle.queue.proofs.refusals.check_drain.Goals as goal
 

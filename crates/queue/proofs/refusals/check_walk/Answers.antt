@@ -1,6 +1,5 @@
 -- `queue::check_walk` meets its contract. Assumes nothing.
 use mathlib.Core.Path.{◌≡◌}
-use borrow.Author.Rules.{rules}
 use Rattle.queue.proofs.Checks.{passed_zero, failed_number}
 use Rattle.queue.specs.Answers.{rec_of}
 use Rattle.rules.specs.Refusals.{on_queue}

@@ -1,6 +1,5 @@
 -- `queue::good_drain` meets its contract. Assumes nothing.
 use native.Mathlib.Omega.{arith}
-use borrow.Author.Rules.{rules}
 use Rattle.queue.proofs.DrainChecks.{bad}
 use Rattle.rules.proofs.Refusals.{head_true}
 use Rattle.queue.proofs.refusals.good_drain.Goals as goal

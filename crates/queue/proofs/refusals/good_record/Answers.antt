@@ -1,7 +1,6 @@
 -- `queue::good_record` meets its contract. Assumes nothing.
 use Prim.Native.Nat.{◌≤◌, ◌<◌, ◌-◌}
 use native.Mathlib.Omega.{arith}
-use borrow.Author.Rules.{rules}
 use Rattle.rules.proofs.Refusals.{head_true, head_false}
 use Rattle.rules.specs.Refusals.{good_rec}
 use Rattle.queue.proofs.refusals.good_record.Goals as goal

@@ -1,13 +1,9 @@
 -- `regions::portions::check_portion` meets its contract. Assumes nothing.
-use mathlib.Core.Path.{◌≡◌}
 use native.Mathlib.Omega.{arith}
-use borrow.Author.Rules.{rules}
 use Rattle.extends.proofs.Asks.{queue-refuses, queue-passes, room-refuses, room-passes}
 use Rattle.queue.proofs.Checks.{passed_zero}
-use Rattle.queue.specs.Answers.{rec_of}
 use Rattle.regions.proofs.Asks.{new_refuses, new_passes}
 use Rattle.rules.proofs.Refusals.{queue_ok}
-use Rattle.rules.specs.Refusals.{on_change, on_queue}
 use Rattle.rules.specs.Regions.{on_portion}
 use Rattle.regions.proofs.portions.check_portion.Goals as goal
 

@@ -1,14 +1,10 @@
 -- `regions::portions::move_portion` meets its contract. Assumes nothing.
-use mathlib.Core.Path.{◌≡◌}
 use native.Mathlib.Omega.{arith}
-use borrow.Author.Rules.{rules}
-use lib.ListN.{length}
 use Rattle.queue.proofs.Checks.{passed_zero}
 use Rattle.queue.specs.Answers.{rec_of}
 use Rattle.regions.proofs.Asks.{Portion, portion}
 use Rattle.regions.proofs.Moves.{portion-refused, portion-done}
 use Rattle.rules.proofs.Places.{place_good}
-use Rattle.rules.specs.Regions.{on_portion}
 use Rattle.regions.proofs.portions.move_portion.Goals as goal
 
 pub returns-in-Refused : goal.returns-in-Refused

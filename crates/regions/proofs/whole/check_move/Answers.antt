@@ -1,11 +1,7 @@
 -- `regions::whole::check_move` meets its contract. Assumes nothing.
-use mathlib.Core.Path.{◌≡◌}
 use native.Mathlib.Omega.{arith}
-use borrow.Author.Rules.{rules}
 use Rattle.extends.proofs.Asks.{queue-refuses, queue-passes, slots_refuse, slots_pass, room-refuses, room-passes}
 use Rattle.queue.proofs.Checks.{passed_zero}
-use Rattle.queue.specs.Answers.{rec_of}
-use Rattle.rules.specs.Refusals.{on_change}
 use Rattle.rules.specs.Regions.{on_moving}
 use Rattle.regions.proofs.whole.check_move.Goals as goal
 

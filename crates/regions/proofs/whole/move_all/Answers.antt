@@ -1,13 +1,9 @@
 -- `regions::whole::move_all` meets its contract. Assumes nothing.
-use mathlib.Core.Path.{◌≡◌}
 use native.Mathlib.Omega.{arith}
-use borrow.Author.Rules.{rules}
-use lib.ListN.{length}
 use Rattle.queue.proofs.Checks.{passed_zero}
 use Rattle.queue.specs.Answers.{rec_of}
 use Rattle.regions.proofs.Asks.{Whole, whole}
 use Rattle.regions.proofs.Moves.{move_refused, move_done}
-use Rattle.rules.specs.Regions.{on_moving}
 use Rattle.regions.proofs.whole.move_all.Goals as goal
 
 pub returns-in-Refused : goal.returns-in-Refused

@@ -4,7 +4,6 @@ use Rattle.rules.specs.Choices.{unless}
 use Rattle.replies.proofs.Arms.{arm_two, stays}
 use Rattle.replies.specs.InC.{answer_in_c}
 use Rattle.queue.specs.Answers.{of_change}
-use borrow.Author.Rules.{rules}
 use Rattle.replies.proofs.changes.changed.Goals as goal
 
 pub returns-in-Done : goal.returns-in-Done

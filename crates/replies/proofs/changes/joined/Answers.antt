@@ -4,7 +4,6 @@ use Rattle.rules.specs.Choices.{unless}
 use Rattle.replies.proofs.Arms.{arm_three, stay}
 use Rattle.replies.specs.InC.{pair_in_c}
 use Rattle.queue.specs.Pairs.{of_joined}
-use borrow.Author.Rules.{rules}
 use Rattle.replies.proofs.changes.joined.Goals as goal
 
 pub returns-in-Done : goal.returns-in-Done

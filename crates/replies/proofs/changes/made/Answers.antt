@@ -3,7 +3,6 @@ use mathlib.Core.Path.{refl}
 use Rattle.replies.proofs.Arms.{arm_two}
 use Rattle.replies.specs.InC.{make_in_c}
 use Rattle.queue.specs.Answers.{of_made}
-use borrow.Author.Rules.{rules}
 use Rattle.replies.proofs.changes.made.Goals as goal
 
 pub returns-in-Done : goal.returns-in-Done

@@ -1,6 +1,5 @@
 -- `replies::changes::refuses` meets its contract. Assumes nothing.
 use mathlib.Core.Path.{ap}
-use borrow.Author.Rules.{rules}
 use Rattle.replies.proofs.changes.refuses.Goals as goal
 
 pub returns : goal.returns

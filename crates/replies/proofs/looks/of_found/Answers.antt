@@ -3,7 +3,6 @@ use mathlib.Core.Path.{refl}
 use Rattle.replies.proofs.Arms.{arm, arm_refused}
 use Rattle.replies.specs.InC.{found_in_c}
 use Rattle.elements.specs.Answers.{of_found}
-use borrow.Author.Rules.{rules}
 use Rattle.replies.proofs.looks.of_found.Goals as goal
 
 pub returns-in-Number : goal.returns-in-Number

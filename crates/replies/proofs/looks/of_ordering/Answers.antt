@@ -3,7 +3,6 @@ use mathlib.Core.Path.{refl}
 use Rattle.replies.proofs.Arms.{arm, arm_refused}
 use Rattle.replies.specs.InC.{order_in_c}
 use Rattle.queue.specs.Looks.{of_ordering}
-use borrow.Author.Rules.{rules}
 use Rattle.replies.proofs.looks.of_ordering.Goals as goal
 
 pub returns-in-Less : goal.returns-in-Less

@@ -3,7 +3,6 @@ use mathlib.Core.Path.{refl}
 use Rattle.replies.proofs.Arms.{arm, arm_refused}
 use Rattle.replies.specs.InC.{count_in_c}
 use Rattle.queue.specs.Looks.{of_point}
-use borrow.Author.Rules.{rules}
 use Rattle.replies.proofs.looks.of_point.Goals as goal
 
 pub returns-in-At : goal.returns-in-At

@@ -3,7 +3,6 @@ use mathlib.Core.Path.{refl}
 use Rattle.replies.proofs.Arms.{arm, arm_refused}
 use Rattle.replies.specs.InC.{spot_in_c}
 use Rattle.queue.specs.Looks.{of_searched}
-use borrow.Author.Rules.{rules}
 use Rattle.replies.proofs.looks.of_searched.Goals as goal
 
 pub returns-in-Found : goal.returns-in-Found

@@ -3,7 +3,6 @@ use mathlib.Core.Path.{refl}
 use Rattle.replies.proofs.Arms.{arm, arm_refused}
 use Rattle.replies.specs.InC.{truth_in_c}
 use Rattle.queue.specs.Looks.{of_truth}
-use borrow.Author.Rules.{rules}
 use Rattle.replies.proofs.looks.of_truth.Goals as goal
 
 pub returns-in-Is : goal.returns-in-Is

@@ -3,7 +3,6 @@ use mathlib.Core.Path.{refl}
 use Rattle.replies.proofs.Arms.{arm, arm_refused}
 use Rattle.replies.specs.InC.{count_in_c}
 use Rattle.queue.specs.Looks.{of_written}
-use borrow.Author.Rules.{rules}
 use Rattle.replies.proofs.looks.of_written.Goals as goal
 
 pub returns-in-Bytes : goal.returns-in-Bytes

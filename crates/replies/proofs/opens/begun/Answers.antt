@@ -3,7 +3,6 @@ use mathlib.Core.Path.{refl}
 use Rattle.replies.proofs.Arms.{arm_two}
 use Rattle.replies.specs.InC.{begun_in_c}
 use Rattle.queue.specs.Looks.{of_begun}
-use borrow.Author.Rules.{rules}
 use Rattle.replies.proofs.opens.begun.Goals as goal
 
 pub returns-in-Walk : goal.returns-in-Walk

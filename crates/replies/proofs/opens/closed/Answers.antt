@@ -4,7 +4,6 @@ use Rattle.rules.specs.Choices.{unless}
 use Rattle.replies.proofs.Arms.{arm_two, stays}
 use Rattle.replies.specs.InC.{answer_in_c}
 use Rattle.queue.specs.Drains.{of_closed}
-use borrow.Author.Rules.{rules}
 use Rattle.replies.proofs.opens.closed.Goals as goal
 
 pub returns-in-Done : goal.returns-in-Done

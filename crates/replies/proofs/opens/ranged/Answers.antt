@@ -3,7 +3,6 @@ use mathlib.Core.Path.{refl}
 use Rattle.replies.proofs.Arms.{arm_two}
 use Rattle.replies.specs.InC.{runs_in_c}
 use Rattle.queue.specs.Looks.{of_ranges}
-use borrow.Author.Rules.{rules}
 use Rattle.replies.proofs.opens.ranged.Goals as goal
 
 pub returns-in-Runs : goal.returns-in-Runs

@@ -4,7 +4,6 @@ use Rattle.rules.specs.Choices.{unless}
 use Rattle.replies.proofs.Arms.{arm_two, stays}
 use Rattle.replies.specs.InC.{step_in_c}
 use Rattle.elements.specs.Answers.{of_stepped}
-use borrow.Author.Rules.{rules}
 use Rattle.replies.proofs.opens.stepped.Goals as goal
 
 pub returns-in-Number : goal.returns-in-Number

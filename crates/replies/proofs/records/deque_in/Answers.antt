@@ -1,6 +1,5 @@
 -- `replies::records::deque_in` meets its contract. Assumes nothing.
 use Rattle.replies.specs.Records.{rec_in}
-use borrow.Author.Rules.{rules}
 use Rattle.replies.proofs.records.deque_in.Goals as goal
 
 pub returns : goal.returns

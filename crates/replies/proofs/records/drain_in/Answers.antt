@@ -1,6 +1,5 @@
 -- `replies::records::drain_in` meets its contract. Assumes nothing.
 use Rattle.replies.proofs.Stored.{drain_read}
-use borrow.Author.Rules.{rules}
 use Rattle.replies.proofs.records.drain_in.Goals as goal
 
 pub returns : goal.returns

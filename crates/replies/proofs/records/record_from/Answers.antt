@@ -1,6 +1,5 @@
 -- `replies::records::record_from` meets its contract. Assumes nothing.
 use Rattle.replies.proofs.Stored.{rec-read}
-use borrow.Author.Rules.{rules}
 use Rattle.replies.proofs.records.record_from.Goals as goal
 
 pub returns : goal.returns

@@ -2,7 +2,6 @@
 use mathlib.Core.List.{[]}
 use Rattle.replies.specs.Records.{rec_words}
 use Rattle.replies.proofs.Stored.{rec_stored}
-use borrow.Author.Rules.{rules}
 use Rattle.replies.proofs.records.store_deque.Goals as goal
 
 pub returns : goal.returns

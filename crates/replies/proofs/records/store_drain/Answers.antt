@@ -1,6 +1,5 @@
 -- `replies::records::store_drain` meets its contract. Assumes nothing.
 use Rattle.replies.proofs.Stored.{drain_stored}
-use borrow.Author.Rules.{rules}
 use Rattle.replies.proofs.records.store_drain.Goals as goal
 
 pub returns : goal.returns

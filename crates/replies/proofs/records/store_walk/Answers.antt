@@ -1,7 +1,6 @@
 -- `replies::records::store_walk` meets its contract. Assumes nothing.
 use Rattle.replies.specs.Records.{walk_words}
 use Rattle.replies.proofs.Stored.{rec_stored}
-use borrow.Author.Rules.{rules}
 use Rattle.replies.proofs.records.store_walk.Goals as goal
 
 pub returns : goal.returns

@@ -1,7 +1,6 @@
 -- `replies::records::walk_in` meets its contract. Assumes nothing.
 use Rattle.replies.proofs.Stored.{walk-read}
 use Rattle.replies.specs.Records.{rec_in}
-use borrow.Author.Rules.{rules}
 use Rattle.replies.proofs.records.walk_in.Goals as goal
 
 pub returns : goal.returns

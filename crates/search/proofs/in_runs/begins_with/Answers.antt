@@ -1,6 +1,5 @@
 -- `search::in_runs::begins_with` meets its contract. Assumes nothing.
 use mathlib.Core.Path.{◌∙◌}
-use borrow.Author.Rules.{rules}
 use Rattle.search.proofs.Handed.{begins_none, begins_some}
 use Rattle.search.proofs.in_runs.begins_with.Goals as goal
 

@@ -1,6 +1,5 @@
 -- `search::in_runs::counted_from` meets its contract. Assumes nothing.
 use mathlib.Core.Path.{sym, ◌∙◌}
-use borrow.Author.Rules.{rules}
 use Rattle.search.proofs.Handed.{back_counted, front_counted}
 use Rattle.search.proofs.in_runs.counted_from.Goals as goal
 

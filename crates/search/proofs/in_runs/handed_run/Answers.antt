@@ -1,6 +1,5 @@
 -- `search::in_runs::handed_run` meets its contract. Assumes nothing.
 use mathlib.Core.Path.{sym, ◌∙◌}
-use borrow.Author.Rules.{rules}
 use Rattle.search.proofs.Handed.{back-handed, front-handed}
 use Rattle.search.proofs.in_runs.handed_run.Goals as goal
 

@@ -1,12 +1,9 @@
 -- `search::in_runs::place_in` meets its contract: each step leaves the same end. Assumes nothing.
-use mathlib.Core.Path.{sym, ◌∙◌}
 use Prim.Native.Nat.{◌≤◌, ◌-◌}
-use native.Mathlib.Omega.{arith}
-use borrow.Author.Rules.{rules}
 use lib.ListN.{length}
 use Rattle.conditions.specs.Tests.{test_of}
 use Rattle.rules.specs.Conditions.{meets}
-use Rattle.search.proofs.Steps.{Halves, starts, goes_up, goes_down, ended}
+use Rattle.search.proofs.Steps.{Halves}
 use Rattle.search.proofs.in_runs.place_in.Given as goal
 
 abbrev pub invariant-loop-high : goal.invariant-loop-high

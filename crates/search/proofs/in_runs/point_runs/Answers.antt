@@ -1,7 +1,6 @@
 -- `search::in_runs::point_runs` meets its contract. Assumes nothing.
 use native.Mathlib.Omega.{arith}
 use Rattle.search.proofs.Searches.{counted_on, point_handed}
-use borrow.Author.Rules.{rules}
 use Rattle.search.proofs.in_runs.point_runs.Goals as goal
 
 pub overflow_add-result : goal.overflow_add-result

@@ -1,11 +1,9 @@
 -- `search::in_runs::search_runs` meets its contract. Assumes nothing.
-use mathlib.Core.Path.{◌≡◌, sym, ◌∙◌, ap}
+use mathlib.Core.Path.{sym, ◌∙◌, ap}
 use native.Mathlib.Omega.{arith}
 use Rattle.conditions.specs.Tests.{test_of}
 use Rattle.rules.specs.Looks.{sees}
-use Rattle.rules.specs.Search.{spot_of, spot_in}
 use Rattle.search.proofs.Searches.{spot-handed, spot_tie, counted_on, spot_found, spot_unlike, spot_past}
-use borrow.Author.Rules.{rules}
 use Rattle.search.proofs.in_runs.search_runs.Goals as goal
 
 pub returns-then-begins_with : goal.returns-then-begins_with

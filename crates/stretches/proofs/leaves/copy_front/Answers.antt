@@ -1,8 +1,6 @@
 -- `stretches::leaves::copy_front` meets its contract. The invariant: the first i elements are copied. Assumes nothing.
 use mathlib.Core.Path.{refl}
-use Prim.Native.Nat.{◌-◌}
-use lib.ListN.{length}
-use Rattle.stretches.proofs.Fronts.{Laid, none, next, all}
+use Rattle.stretches.proofs.Fronts.{none, next, all}
 use borrow.Author.Rules.{rules}
 use Rattle.stretches.proofs.leaves.copy_front.Goals as goal
 

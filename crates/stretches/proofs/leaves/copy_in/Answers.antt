@@ -3,7 +3,6 @@ use mathlib.Core.Path.{◌∙◌, ap, refl}
 use native.Mathlib.Omega.{arith}
 use Rattle.stretches.proofs.Parts.{held}
 use Rattle.rules.specs.Slots.{lay}
-use borrow.Author.Rules.{rules}
 use Rattle.stretches.proofs.leaves.copy_in.Goals as goal
 
 pub returns : goal.returns

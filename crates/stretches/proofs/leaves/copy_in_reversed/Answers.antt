@@ -1,11 +1,9 @@
 -- `stretches::leaves::copy_in_reversed` meets its contract. The
 -- invariant: the last i elements are copied. Assumes nothing.
 use mathlib.Core.List.{reverse}
-use Prim.Native.Nat.{◌-◌}
 use native.Mathlib.Omega.{arith}
-use lib.ListN.{length, length-reverse}
-use Rattle.stretches.proofs.Fronts.{Laid, none, next, all, get_d_reverse}
-use borrow.Author.Rules.{rules}
+use lib.ListN.{length-reverse}
+use Rattle.stretches.proofs.Fronts.{none, next, all, get_d_reverse}
 use Rattle.stretches.proofs.leaves.copy_in_reversed.Goals as goal
 
 pub loop-i-init : goal.loop-i-init

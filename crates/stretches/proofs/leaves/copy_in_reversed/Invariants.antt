@@ -2,10 +2,8 @@
 -- invariant: the last i elements are copied. Assumes nothing.
 use mathlib.Core.List.{reverse}
 use Prim.Native.Nat.{◌-◌}
-use native.Mathlib.Omega.{arith}
-use lib.ListN.{length, length-reverse}
-use Rattle.stretches.proofs.Fronts.{Laid, none, next, all, get_d_reverse}
-use borrow.Author.Rules.{rules}
+use lib.ListN.{length}
+use Rattle.stretches.proofs.Fronts.{Laid}
 use Rattle.stretches.proofs.leaves.copy_in_reversed.Given as goal
 
 abbrev pub invariant-loop-i : goal.invariant-loop-i

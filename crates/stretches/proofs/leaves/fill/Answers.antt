@@ -1,10 +1,8 @@
 -- `stretches::leaves::fill` meets its contract. The invariant: the first i slots are v. Assumes nothing.
 use mathlib.Core.Path.{sym}
-use Prim.Native.Nat.{◌-◌}
 use native.Mathlib.Omega.{arith}
 use lib.ListN.{replicate, length-replicate, get_or-replicate}
-use Rattle.stretches.proofs.Fronts.{Laid, none, next, all}
-use borrow.Author.Rules.{rules}
+use Rattle.stretches.proofs.Fronts.{none, next, all}
 use Rattle.stretches.proofs.leaves.fill.Goals as goal
 
 pub loop-i-init : goal.loop-i-init

@@ -1,10 +1,7 @@
 -- `stretches::leaves::fill` meets its contract. The invariant: the first i slots are v. Assumes nothing.
-use mathlib.Core.Path.{sym}
 use Prim.Native.Nat.{◌-◌}
-use native.Mathlib.Omega.{arith}
-use lib.ListN.{replicate, length-replicate, get_or-replicate}
-use Rattle.stretches.proofs.Fronts.{Laid, none, next, all}
-use borrow.Author.Rules.{rules}
+use lib.ListN.{replicate}
+use Rattle.stretches.proofs.Fronts.{Laid}
 use Rattle.stretches.proofs.leaves.fill.Given as goal
 
 abbrev pub invariant-loop-i : goal.invariant-loop-i

@@ -3,7 +3,6 @@ use mathlib.Core.Path.{◌∙◌, refl}
 use native.Mathlib.Omega.{arith}
 use Rattle.stretches.proofs.Parts.{held_back}
 use Rattle.rules.specs.Slots.{copied}
-use borrow.Author.Rules.{rules}
 use Rattle.stretches.proofs.stretch.copy.Goals as goal
 
 pub returns : goal.returns

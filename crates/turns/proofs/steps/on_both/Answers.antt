@@ -4,7 +4,6 @@ use Rattle.queue.specs.Drains.{state_of}
 use Rattle.turns.proofs.Known.{first_known, second_known, pair_call_known}
 use Rattle.turns.proofs.Taken.{both_over, other-over}
 use Rattle.turns.proofs.Told.{over, appended, split, moved_all, moved-portion, compared}
-use borrow.Author.Rules.{rules}
 use Rattle.turns.proofs.steps.on_both.Goals as goal
 
 pub returns-in_default : goal.returns-in_default

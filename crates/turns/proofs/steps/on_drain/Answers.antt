@@ -4,7 +4,6 @@ use Rattle.queue.specs.Drains.{state_of}
 use Rattle.turns.proofs.Known.{first_known}
 use Rattle.turns.proofs.Taken.{drain_over}
 use Rattle.turns.proofs.Told.{over, drained}
-use borrow.Author.Rules.{rules}
 use Rattle.turns.proofs.steps.on_drain.Goals as goal
 
 pub returns-in_default : goal.returns-in_default

@@ -1,6 +1,5 @@
 -- `turns::steps::on_first` meets its contract. Assumes nothing.
 use Rattle.turns.proofs.Known.{call_known}
-use borrow.Author.Rules.{rules}
 use Rattle.turns.proofs.steps.on_first.Goals as goal
 
 pub returns-in-OfQueue : goal.returns-in-OfQueue

@@ -4,7 +4,6 @@ use Rattle.queue.specs.Drains.{state_of}
 use Rattle.turns.proofs.Known.{first_known, queue-call_known}
 use Rattle.turns.proofs.Taken.{queue-over}
 use Rattle.turns.proofs.Told.{over, changed, asked}
-use borrow.Author.Rules.{rules}
 use Rattle.turns.proofs.steps.on_queue.Goals as goal
 
 pub returns-in_default : goal.returns-in_default

@@ -1,7 +1,6 @@
 -- `turns::steps::turn` meets its contract. Assumes nothing.
 use Rattle.turns.proofs.Known.{side_known}
 use Rattle.turns.proofs.Told.{on_a, on_b}
-use borrow.Author.Rules.{rules}
 use Rattle.turns.proofs.steps.turn.Goals as goal
 
 pub returns-in-A : goal.returns-in-A
