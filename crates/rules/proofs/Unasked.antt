@@ -9,7 +9,7 @@ use lib.ListN.{length}
 use Rattle.rules.proofs.Choices.{by-refusal}
 use Rattle.rules.proofs.Taken.{by_shut}
 use Rattle.rules.proofs.Theorems.{Looks, at_one, at_both}
-use Rattle.rules.specs.Asks.{Ask, AskBoth, answered, answered_both, get?, front?, back?, contains?, sliceRanges?, binarySearch?, partitionPoint?, writeImage?, eq?, cmp?}
+use Rattle.rules.specs.Asks.{Ask, AskBoth, answered, answered_both, get?, front?, back?, contains?, slice_ranges?, binary_search?, partition_point?, write_image?, eq?, cmp?}
 use Rattle.rules.specs.Choices.{ask, unless}
 use Rattle.rules.specs.Images.{on_writing}
 use Rattle.rules.specs.Looks.{looked, seen_as, refused_by, look_at, look_at_both}
@@ -57,12 +57,12 @@ module _ (b : List ℕ) (r : Rec) where
   answered-other front? = plain _ _
   answered-other back? = plain _ _
   answered-other (contains? x) = plain _ _
-  answered-other (sliceRanges? s e) =
+  answered-other (slice_ranges? s e) =
       seen_other _ _ _
       (queue-other _ r _ (asks_other _ 3 _ (λ z. omega arith) (asks_other _ 3 0 (λ z. omega arith) (λ z. omega arith))))
-  answered-other (binarySearch? x) = plain _ _
-  answered-other (partitionPoint? t) = plain _ _
-  answered-other (writeImage? n) =
+  answered-other (binary_search? x) = plain _ _
+  answered-other (partition_point? t) = plain _ _
+  answered-other (write_image? n) =
       look_other _ _ (queue-other _ r _ (asks_other _ 4 0 (λ z. omega arith) (λ z. omega arith)))
 
   -- and at two

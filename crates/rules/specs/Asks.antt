@@ -14,10 +14,10 @@ pub data Ask : Type 0 where
   get? : ℕ → Ask
   front? back? : Ask
   contains? : ℕ → Ask
-  sliceRanges? : ℕ → ℕ → Ask
-  binarySearch? : ℕ → Ask
-  partitionPoint? : Test → Ask
-  writeImage? : ℕ → Ask
+  slice_ranges? : ℕ → ℕ → Ask
+  binary_search? : ℕ → Ask
+  partition_point? : Test → Ask
+  write_image? : ℕ → Ask
 
 -- at two
 pub data AskBoth : Type 0 where
@@ -40,10 +40,10 @@ answered b r (get? i) = seen_as element (look_at b r (at_position i))
 answered b r front? = seen_as element (look_at b r (at_position 0))
 answered b r back? = seen_as element (look_at b r at_back)
 answered b r (contains? x) = seen_as truth (look_at b r (has x))
-answered b r (sliceRanges? s e) = seen_as ranges (look_runs b r s e)
-answered b r (binarySearch? x) = seen_as spot (search_for b r x)
-answered b r (partitionPoint? t) = seen_as count (partition_by b r t)
-answered b r (writeImage? n) = looked (on_writing (length b) r n) (image (image_of (held b r)))
+answered b r (slice_ranges? s e) = seen_as ranges (look_runs b r s e)
+answered b r (binary_search? x) = seen_as spot (search_for b r x)
+answered b r (partition_point? t) = seen_as count (partition_by b r t)
+answered b r (write_image? n) = looked (on_writing (length b) r n) (image (image_of (held b r)))
 
 -- and of two
 unfoldable pub answered_both : List ℕ → Rec → List ℕ → Rec → AskBoth → Look Sight

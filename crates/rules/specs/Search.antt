@@ -13,16 +13,16 @@ middle low high = low + (high - low) / 2
 
 -- at most k steps: while low < high, look at the middle; less sets low one past it, otherwise high to it
 unfoldable pub halving : ℕ → (ℕ → Bool) → List ℕ → ℕ → ℕ → ℕ
-halving zero isLess s low high = low
-halving (suc k) isLess s low high =
+halving zero is_less s low high = low
+halving (suc k) is_less s low high =
     whether (ltb low high)
-    (whether (isLess (get_or s (middle low high) 0)) (halving k isLess s (middle low high + 1) high)
-    (halving k isLess s low (middle low high)))
+    (whether (is_less (get_or s (middle low high) 0)) (halving k is_less s (middle low high + 1) high)
+    (halving k is_less s low (middle low high)))
     low
 
 -- within a run of n: low 0, high n; each step lowers high - low, so n of them are enough
 unfoldable pub place_in : (ℕ → Bool) → List ℕ → ℕ
-place_in isLess s = halving (length s) isLess s 0 (length s)
+place_in is_less s = halving (length s) is_less s 0 (length s)
 
 -- found there, or the place to insert
 pub data Spot : Type 0 where
@@ -44,8 +44,8 @@ spot_of x front (v ∷ s) =
 
 -- `partition_point`: a met test stands for less, an unmet one for greater, and low is the answer
 unfoldable pub point_of : (ℕ → Bool) → List ℕ → List ℕ → ℕ
-point_of isLess front [] = place_in isLess front
-point_of isLess front (v ∷ s) = whether (isLess v) (length front + place_in isLess (v ∷ s)) (place_in isLess front)
+point_of is_less front [] = place_in is_less front
+point_of is_less front (v ∷ s) = whether (is_less v) (length front + place_in is_less (v ∷ s)) (place_in is_less front)
 
 -- `binary_search` on a queue
 unfoldable pub search_for : List ℕ → Rec → ℕ → Look Spot

@@ -51,5 +51,5 @@ ahead [] r i j q = absurd (omega arith)
 ahead (x ∷ l) r i zero q = behind l (x ∷ r) 0 i (omega arith)
 ahead (x ∷ l) r i (suc j) q = ahead l (x ∷ r) i j (omega arith)
 
-pub get_d_reverse : (l : List ℕ) (i j : ℕ) → i + j + 1 ≡ length l → get_or l j 0 ≡ get_or (reverse l) i 0
-get_d_reverse l i j q = sym (ahead l [] i j q)
+pub get_or-reverse : (l : List ℕ) (i j : ℕ) → i + j + 1 ≡ length l → get_or l j 0 ≡ get_or (reverse l) i 0
+get_or-reverse l i j q = sym (ahead l [] i j q)

@@ -71,9 +71,9 @@ ask_of (Get i) = asks.get? i
 ask_of Front = asks.front?
 ask_of Back = asks.back?
 ask_of (Contains x) = asks.contains? x
-ask_of (SliceRanges s e) = asks.sliceRanges? s e
-ask_of (BinarySearch x) = asks.binarySearch? x
-ask_of (PartitionPoint t) = asks.partitionPoint? (test_of t)
+ask_of (SliceRanges s e) = asks.slice_ranges? s e
+ask_of (BinarySearch x) = asks.binary_search? x
+ask_of (PartitionPoint t) = asks.partition_point? (test_of t)
 
 -- a call on a queue
 abbrev pub queue_call_of : QueueCall → List ℕ → List ℕ → rules.QueueCall

@@ -3,7 +3,7 @@
 use mathlib.Core.List.{reverse}
 use native.Mathlib.Omega.{arith}
 use lib.ListN.{length-reverse}
-use Rattle.stretches.proofs.Fronts.{none, next, all, get_d_reverse}
+use Rattle.stretches.proofs.Fronts.{none, next, all, get_or-reverse}
 use Rattle.stretches.proofs.leaves.copy_in_reversed.Goals as goal
 
 pub loop-i-init : goal.loop-i-init
@@ -15,7 +15,7 @@ loop-i-preserved c =
     let l = c.loop-i in
     let many = length-reverse a.src.now in
     next (reverse a.src.now) a.dst.now (omega arith) l.dst l.i _ l.invariant (omega arith)
-    (get_d_reverse a.src.now l.i _ (omega arith))
+    (get_or-reverse a.src.now l.i _ (omega arith))
 
 pub returns : goal.returns
 returns c = let many = length-reverse c.args.src.now in all
