@@ -1,4 +1,6 @@
 // The calls for C and Rust that speak of the lists only. What crosses is said in `replies`.
+#![tactic(auto)]
+
 ghost use Rattle.std.specs.Prelude.{◌≡◌};
 ghost use Rattle.rules.specs.Looks.{look_at, look_at_both, has, same, order};
 ghost use Rattle.replies.specs.InC.{truth_in_c, order_in_c};

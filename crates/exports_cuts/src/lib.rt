@@ -1,4 +1,6 @@
 // The calls for C and Rust that cut elements off. What crosses is said in `replies`.
+#![tactic(auto)]
+
 ghost use Rattle.std.specs.Prelude.{◌≡◌};
 ghost use Rattle.rules.specs.Ends.{truncate, truncate_front, clear};
 ghost use Rattle.rules.specs.Outcome.{do_rule};

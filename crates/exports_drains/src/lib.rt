@@ -1,4 +1,6 @@
 // The calls for C and Rust of a drain. What crosses is said in `replies`.
+#![tactic(auto)]
+
 ghost use Rattle.std.specs.Prelude.{◌≡◌};
 ghost use Rattle.rules.specs.Outcome.{do_open, do_next, do_next_back, do_close};
 ghost use Rattle.replies.specs.InC.{told_in_c};

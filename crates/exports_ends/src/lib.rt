@@ -1,5 +1,7 @@
 // The calls for C and Rust that add an element at an end, or hand the one there over. What crosses is said in
 // `replies`.
+#![tactic(auto)]
+
 ghost use Rattle.std.specs.Prelude.{◌≡◌};
 ghost use Rattle.rules.specs.Ends.{pop_front, pop_back, push_back, push_front};
 ghost use Rattle.rules.specs.Outcome.{do_rule};

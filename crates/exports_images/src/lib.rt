@@ -1,5 +1,7 @@
 // The calls for C and Rust that make a queue, empty or of a saved image, and the one that saves it. What crosses is
 // said in `replies`.
+#![tactic(auto)]
+
 ghost use Rattle.std.specs.Prelude.{◌≡◌};
 ghost use Rattle.rules.specs.Makes.{fresh, read_image};
 ghost use Rattle.replies.specs.InC.{make_told_in_c};

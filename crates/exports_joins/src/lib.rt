@@ -1,4 +1,6 @@
 // The calls for C and Rust on two queues. What crosses is said in `replies`.
+#![tactic(auto)]
+
 ghost use Rattle.std.specs.Prelude.{◌≡◌};
 ghost use Rattle.rules.specs.Pairs.{do_append, do_split};
 ghost use Rattle.replies.specs.InC.{pair_told_in_c};

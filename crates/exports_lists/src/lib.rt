@@ -1,4 +1,6 @@
 // The calls for C and Rust that add a list at an end. What crosses is said in `replies`.
+#![tactic(auto)]
+
 ghost use Rattle.std.specs.Prelude.{◌≡◌};
 ghost use Rattle.rules.specs.Joins.{extend_with, prepend, extend_front, resize};
 ghost use Rattle.rules.specs.Outcome.{do_rule};

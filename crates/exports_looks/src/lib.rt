@@ -1,4 +1,6 @@
 // The calls for C and Rust that look at one element, or ask where many stand. What crosses is said in `replies`.
+#![tactic(auto)]
+
 ghost use Rattle.std.specs.Prelude.{◌≡◌};
 ghost use Rattle.rules.specs.Looks.{look_at, at_position, at_back};
 ghost use Rattle.rules.specs.Runs.{look_runs};

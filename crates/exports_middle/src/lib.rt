@@ -1,4 +1,6 @@
 // The calls for C and Rust in a queue's middle. What crosses is said in `replies`.
+#![tactic(auto)]
+
 ghost use Rattle.std.specs.Prelude.{◌≡◌};
 ghost use Rattle.rules.specs.Middle.{insert_at, remove_at};
 ghost use Rattle.rules.specs.Outcome.{do_rule};

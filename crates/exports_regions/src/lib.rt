@@ -1,4 +1,6 @@
 // The calls for C and Rust that move a queue into another region. What crosses is said in `replies`.
+#![tactic(auto)]
+
 ghost use Rattle.std.specs.Prelude.{◌≡◌};
 ghost use Rattle.rules.specs.Regions.{do_move, do_portion};
 ghost use Rattle.replies.specs.InC.{pair_told_in_c};

@@ -1,4 +1,6 @@
 // The calls for C and Rust that search by halving. What crosses is said in `replies`.
+#![tactic(auto)]
+
 ghost use Rattle.std.specs.Prelude.{◌≡◌};
 ghost use Rattle.rules.specs.Search.{search_for};
 ghost use Rattle.queue.specs.Answers.{rec_of};

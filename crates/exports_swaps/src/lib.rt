@@ -1,4 +1,6 @@
 // The calls for C and Rust that put an element in another's place. What crosses is said in `replies`.
+#![tactic(auto)]
+
 ghost use Rattle.std.specs.Prelude.{◌≡◌};
 ghost use Rattle.rules.specs.Ends.{exchange, swap_remove_front, swap_remove_back};
 ghost use Rattle.rules.specs.Outcome.{do_rule};

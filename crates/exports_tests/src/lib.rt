@@ -1,4 +1,6 @@
 // The calls for C and Rust that change a queue by a test of its elements. What crosses is said in `replies`.
+#![tactic(auto)]
+
 ghost use Rattle.std.proofs.Math.Option.{none};
 ghost use Rattle.std.specs.Prelude.{◌≡◌};
 ghost use Rattle.rules.specs.Ends.{pop_front_if, pop_back_if};

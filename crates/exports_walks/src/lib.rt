@@ -1,4 +1,6 @@
 // The calls for C and Rust of a walk. What crosses is said in `replies`.
+#![tactic(auto)]
+
 ghost use Rattle.std.specs.Prelude.{◌≡◌};
 ghost use Rattle.rules.specs.Walks.{begin_walk, next_step, next_back_step};
 ghost use Rattle.replies.specs.InC.{begun_in_c, step_in_c};

@@ -2,7 +2,6 @@
 use Rattle.replies.proofs.CrossingLooks.{both_look}
 use Rattle.replies.specs.InC.{order_in_c}
 use Rattle.rules.specs.Looks.{order}
-use borrow.Author.Rules.{rules}
 use Rattle.exports_compares.proofs.scorebucket_cmp.Goals as goal
 
 pub returns : goal.returns

@@ -2,7 +2,6 @@
 use Rattle.replies.proofs.CrossingLooks.{looks}
 use Rattle.replies.specs.InC.{truth_in_c}
 use Rattle.rules.specs.Looks.{look_at}
-use borrow.Author.Rules.{rules}
 use Rattle.exports_compares.proofs.scorebucket_contains.Goals as goal
 
 pub returns : goal.returns

@@ -2,7 +2,6 @@
 use Rattle.replies.proofs.CrossingLooks.{both_look}
 use Rattle.replies.specs.InC.{truth_in_c}
 use Rattle.rules.specs.Looks.{same}
-use borrow.Author.Rules.{rules}
 use Rattle.exports_compares.proofs.scorebucket_eq.Goals as goal
 
 pub returns : goal.returns

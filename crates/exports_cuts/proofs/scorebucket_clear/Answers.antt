@@ -1,6 +1,5 @@
 -- `exports_cuts::scorebucket_clear` meets its contract. Assumes nothing.
 use Rattle.replies.proofs.Crossing.{by_rule}
-use borrow.Author.Rules.{rules}
 use Rattle.exports_cuts.proofs.scorebucket_clear.Goals as goal
 
 pub returns : goal.returns

@@ -1,6 +1,5 @@
 -- `exports_cuts::scorebucket_truncate_front` meets its contract. Assumes nothing.
 use Rattle.replies.proofs.Crossing.{by_rule}
-use borrow.Author.Rules.{rules}
 use Rattle.exports_cuts.proofs.scorebucket_truncate_front.Goals as goal
 
 pub returns : goal.returns

@@ -6,7 +6,6 @@ use Rattle.replies.proofs.Crossing.{on_record}
 use Rattle.replies.specs.InC.{Said, answer_in_c, told_in_c}
 use Rattle.rules.specs.Outcome.{Answer, do_open, told}
 use Rattle.rules.specs.Records.{Rec}
-use borrow.Author.Rules.{rules}
 use Rattle.exports_drains.proofs.scorebucket_drain.Goals as goal
 
 -- r is the record that the call below was given, r' the one in the caller's words; old are the words of the drain

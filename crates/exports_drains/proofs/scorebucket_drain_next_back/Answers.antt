@@ -2,7 +2,6 @@
 use mathlib.Core.Path.{ap}
 use Rattle.replies.proofs.Crossing.{on_record}
 use Rattle.rules.specs.Outcome.{do_next_back}
-use borrow.Author.Rules.{rules}
 use Rattle.exports_drains.proofs.scorebucket_drain_next_back.Goals as goal
 
 pub returns : goal.returns

@@ -1,6 +1,5 @@
 -- `exports_ends::scorebucket_pop_front` meets its contract. Assumes nothing.
 use Rattle.replies.proofs.Crossing.{by_rule}
-use borrow.Author.Rules.{rules}
 use Rattle.exports_ends.proofs.scorebucket_pop_front.Goals as goal
 
 pub returns : goal.returns

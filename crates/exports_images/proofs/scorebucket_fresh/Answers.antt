@@ -1,7 +1,6 @@
 -- `exports_images::scorebucket_fresh` meets its contract. Assumes nothing.
 use Rattle.replies.proofs.Crossing.{changes}
 use Rattle.replies.specs.InC.{make_in_c}
-use borrow.Author.Rules.{rules}
 use Rattle.exports_images.proofs.scorebucket_fresh.Goals as goal
 
 pub returns : goal.returns

@@ -1,6 +1,5 @@
 -- `exports_images::scorebucket_write_image` meets its contract. Assumes nothing.
 use Rattle.exports_images.proofs.Writing.{writes}
-use borrow.Author.Rules.{rules}
 use Rattle.exports_images.proofs.scorebucket_write_image.Goals as goal
 
 pub returns : goal.returns

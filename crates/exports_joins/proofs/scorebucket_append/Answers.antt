@@ -1,6 +1,5 @@
 -- `exports_joins::scorebucket_append` meets its contract. Assumes nothing.
 use Rattle.exports_joins.proofs.Pairs.{appends}
-use borrow.Author.Rules.{rules}
 use Rattle.exports_joins.proofs.scorebucket_append.Goals as goal
 
 pub returns : goal.returns

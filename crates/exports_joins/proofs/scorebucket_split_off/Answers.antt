@@ -1,6 +1,5 @@
 -- `exports_joins::scorebucket_split_off` meets its contract. Assumes nothing.
 use Rattle.exports_joins.proofs.Pairs.{splits}
-use borrow.Author.Rules.{rules}
 use Rattle.exports_joins.proofs.scorebucket_split_off.Goals as goal
 
 pub returns : goal.returns

@@ -1,6 +1,5 @@
 -- `exports_lists::scorebucket_extend_front` meets its contract. Assumes nothing.
 use Rattle.replies.proofs.Crossing.{by_rule}
-use borrow.Author.Rules.{rules}
 use Rattle.exports_lists.proofs.scorebucket_extend_front.Goals as goal
 
 pub returns : goal.returns

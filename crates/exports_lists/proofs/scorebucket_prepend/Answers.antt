@@ -1,6 +1,5 @@
 -- `exports_lists::scorebucket_prepend` meets its contract. Assumes nothing.
 use Rattle.replies.proofs.Crossing.{by_rule}
-use borrow.Author.Rules.{rules}
 use Rattle.exports_lists.proofs.scorebucket_prepend.Goals as goal
 
 pub returns : goal.returns

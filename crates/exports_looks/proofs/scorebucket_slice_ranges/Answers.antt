@@ -7,7 +7,6 @@ use Rattle.replies.specs.InC.{runs_in_c}
 use Rattle.rules.specs.Records.{Rec}
 use Rattle.rules.specs.Looks.{Look}
 use Rattle.rules.specs.Runs.{TwoRuns, look_runs}
-use borrow.Author.Rules.{rules}
 use Rattle.exports_looks.proofs.scorebucket_slice_ranges.Goals as goal
 
 -- r is the record that the call below was given, r' the one in the caller's words

@@ -1,6 +1,5 @@
 -- `exports_middle::scorebucket_insert` meets its contract. Assumes nothing.
 use Rattle.replies.proofs.Crossing.{by_rule}
-use borrow.Author.Rules.{rules}
 use Rattle.exports_middle.proofs.scorebucket_insert.Goals as goal
 
 pub returns : goal.returns

@@ -1,6 +1,5 @@
 -- `exports_middle::scorebucket_splice` meets its contract. Assumes nothing.
 use Rattle.replies.proofs.Crossing.{by_rule}
-use borrow.Author.Rules.{rules}
 use Rattle.exports_middle.proofs.scorebucket_splice.Goals as goal
 
 pub returns : goal.returns

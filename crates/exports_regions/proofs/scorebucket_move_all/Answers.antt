@@ -1,6 +1,5 @@
 -- `exports_regions::scorebucket_move_all` meets its contract. Assumes nothing.
 use Rattle.exports_regions.proofs.Moves.{moves}
-use borrow.Author.Rules.{rules}
 use Rattle.exports_regions.proofs.scorebucket_move_all.Goals as goal
 
 pub returns : goal.returns

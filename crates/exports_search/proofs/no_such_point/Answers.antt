@@ -5,7 +5,6 @@ use Rattle.queue.proofs.Checks.{failed_number, passed_zero}
 use Rattle.queue.proofs.Numbers.{some_number}
 use Rattle.queue.specs.Answers.{number_of}
 use Rattle.rules.proofs.Refusals.{queue-stop, queue_go}
-use borrow.Author.Rules.{rules}
 use Rattle.exports_search.proofs.no_such_point.Goals as goal
 
 pub returns-in-Refused : goal.returns-in-Refused

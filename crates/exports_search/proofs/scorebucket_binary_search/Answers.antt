@@ -2,7 +2,6 @@
 use Rattle.replies.proofs.CrossingLooks.{looks}
 use Rattle.replies.specs.InC.{spot_in_c}
 use Rattle.rules.specs.Search.{search_for}
-use borrow.Author.Rules.{rules}
 use Rattle.exports_search.proofs.scorebucket_binary_search.Goals as goal
 
 pub returns : goal.returns

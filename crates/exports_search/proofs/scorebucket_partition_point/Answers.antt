@@ -3,7 +3,6 @@ use Rattle.exports_search.proofs.ByTest.{by_point, no_point}
 use Rattle.replies.proofs.CrossingLooks.{looks}
 use Rattle.replies.specs.InC.{count_in_c}
 use Rattle.rules.specs.Search.{partition_by}
-use borrow.Author.Rules.{rules}
 use Rattle.exports_search.proofs.scorebucket_partition_point.Goals as goal
 
 pub returns-in-For : goal.returns-in-For

@@ -1,6 +1,5 @@
 -- `exports_swaps::scorebucket_swap` meets its contract. Assumes nothing.
 use Rattle.replies.proofs.Crossing.{by_rule}
-use borrow.Author.Rules.{rules}
 use Rattle.exports_swaps.proofs.scorebucket_swap.Goals as goal
 
 pub returns : goal.returns

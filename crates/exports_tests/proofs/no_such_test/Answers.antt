@@ -7,7 +7,6 @@ use Rattle.queue.proofs.Numbers.{some_number}
 use Rattle.queue.specs.Answers.{number_of}
 use Rattle.replies.specs.InC.{said}
 use Rattle.rules.proofs.Refusals.{change_stop, change_go}
-use borrow.Author.Rules.{rules}
 use Rattle.exports_tests.proofs.no_such_test.Goals as goal
 
 pub returns-in-Refused : goal.returns-in-Refused

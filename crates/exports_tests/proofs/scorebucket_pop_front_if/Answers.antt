@@ -2,7 +2,6 @@
 use Rattle.exports_tests.proofs.ByTest.{by_test, no_test}
 use Rattle.replies.proofs.Crossing.{by_rule}
 use Rattle.rules.specs.Ends.{pop_front_if}
-use borrow.Author.Rules.{rules}
 use Rattle.exports_tests.proofs.scorebucket_pop_front_if.Goals as goal
 
 pub returns-in-For : goal.returns-in-For

@@ -2,7 +2,6 @@
 use Rattle.replies.proofs.CrossingLooks.{crosses}
 use Rattle.replies.specs.InC.{begun_in_c}
 use Rattle.rules.specs.Walks.{begin_walk}
-use borrow.Author.Rules.{rules}
 use Rattle.exports_walks.proofs.scorebucket_begin_walk.Goals as goal
 
 pub returns : goal.returns

@@ -2,7 +2,6 @@
 use Rattle.replies.proofs.CrossingLooks.{crosses}
 use Rattle.replies.specs.InC.{step_in_c}
 use Rattle.rules.specs.Walks.{next_step}
-use borrow.Author.Rules.{rules}
 use Rattle.exports_walks.proofs.scorebucket_walk_next.Goals as goal
 
 pub returns : goal.returns
