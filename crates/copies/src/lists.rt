@@ -11,7 +11,7 @@ use stretches::{copy_in, copy_in_reversed, fill};
 fn copy_slice_apart(slots: &mut [u32], dst: WrappedIndex, src: &[u32])
     requires dst_in_bounds { (dst.0 < length slots.old) × (length src.now ≤ length slots.old)
         × (length slots.old ≤ most_slots) }
-    requires dst_in_bounds_2 { length slots.old - dst.0 < length src.now }
+    requires src_wraps { length slots.old - dst.0 < length src.now }
     ensures { slots.new ≡ lay slots.old dst.0 src.now }
 {
     let w = dst.as_index();

@@ -40,7 +40,7 @@ pub fn copy_range(
     start: usize,
     n: usize,
 )
-    requires q_value { (on_queue (length from.now) (rec_of q) 0 ≡ 0) × (start + n ≤ q.len) }
+    requires range_in_queue { (on_queue (length from.now) (rec_of q) 0 ≡ 0) × (start + n ≤ q.len) }
     requires dst_in_bounds { (dst.0 ≤ length slots.old - 1) × (n ≤ length slots.old) × (length slots.old ≤ most_slots) }
     ensures { slots.new
         ≡ lay slots.old dst.0 (take n (drop start (held from.now (rec_of q)))) }

@@ -145,28 +145,28 @@ module _ (b : List ℕ) (r : Rec) (g : Good (length b) r) (b' : List ℕ) (r' : 
       (split_done at)
       (λ ne. refused_keeps _ none _ ne (made_none (shut r')))
 
-  move_done : on_moving (length b) r (length b') ≡ 0
-      → Keeps2 (queue_of b (shut r)) (queue_of b' (shut r'))
-      (both_step (shut r') (moved_whole b r b') (stands b' (shut r')))
+  -- gone is what the bare slots held before, and has left
+  move_done : (gone : List ℕ) → gone ≡ stands b' (shut r') → on_moving (length b) r (length b') ≡ 0
+      → Keeps2 (queue_of b (shut r)) (queue_of b' (shut r')) (both_step (shut r') (moved_whole b r b') gone)
   unfolding both_step moved_whole crossing made_with made_or unless clear
-  move_done z =
+  move_done gone held z =
       let o = move_leaves b r (length b') z in
       record {
         slots-a = left-slots b r _;
         slots-b = length-lay b' _ _;
         fit_a = left_fit b r _ o.0;
         fit_b = made_fit b' _ o.1;
-        balance = λ x. rw (stands-shut b r g, left-stands b r _ o.0, made-stands b' _ o.1)
+        balance = λ x. rw (held, stands-shut b r g, left-stands b r _ o.0, made-stands b' _ o.1)
             (omega (arith, tally_nil x));
       }
 
-  keeps_move : Keeps2 (queue_of b (shut r)) (queue_of b' (shut r'))
-      (both_step (shut r') (do_move b r b') (stands b' (shut r')))
+  keeps_move : (gone : List ℕ) → gone ≡ stands b' (shut r')
+      → Keeps2 (queue_of b (shut r)) (queue_of b' (shut r')) (both_step (shut r') (do_move b r b') gone)
   unfolding do_move
-  keeps_move =
+  keeps_move gone held =
       by-either (on_moving (length b) r (length b'))
-      (λ m. Keeps2 (queue_of b (shut r)) (queue_of b' (shut r')) (both_step (shut r') m (stands b' (shut r')))) move_done
-      (λ ne. refused_keeps _ none _ ne (made_none (shut r')))
+      (λ m. Keeps2 (queue_of b (shut r)) (queue_of b' (shut r')) (both_step (shut r') m gone)) (move_done gone held)
+      (λ ne. refused_keeps _ none gone ne (made_none (shut r')))
 
   portion-done : (n : ℕ) → on_portion (length b) r (length b') r' n ≡ 0
       → Keeps2 (queue_of b (shut r)) (queue_of b' (shut r')) (both_step (shut r') (ported b r b' r' n) [])
@@ -205,7 +205,7 @@ module _ (b : List ℕ) (r : Rec) (g : Good (length b) r) (b' : List ℕ) (r' : 
   unfolding pair_step
   keeps_pair appending = keeps_append
   keeps_pair (splitting at) = keeps_split at
-  keeps_pair moving = keeps_move
+  keeps_pair moving = keeps_move _ refl
   keeps_pair (porting n) = keeps_portion n
   keeps_pair (comparing a) = keeps_look _ _ _ (fit_shut g) (fit_shut g')
 

@@ -12,23 +12,23 @@ returns-then-n-eq0 c = none_laid _ _ _ _ c.if-n-eq0.true
 
 pub wrap_add-first-requires : goal.wrap_add-first-requires
 wrap_add-first-requires c =
-    let g = fine c.args.from.now (rec_of c.args.q) c.requires.q_value.0 in
+    let g = fine c.args.from.now (rec_of c.args.q) c.requires.range_in_queue.0 in
     let k = g.good in
     omega arith
 
 pub overflow_sub-from : goal.overflow_sub-from
 overflow_sub-from c =
     let low =
-    first_in_slots c.args.from.now (rec_of c.args.q) c.args.start c.args.n c.requires.q_value.0
-    c.requires.q_value.1 c.if-n-eq0.false in
+    first_in_slots c.args.from.now (rec_of c.args.q) c.args.start c.args.n c.requires.range_in_queue.0
+    c.requires.range_in_queue.1 c.if-n-eq0.false in
     omega arith
 
 pub copy_runs_apart-requires : goal.copy_runs_apart-requires
 copy_runs_apart-requires c =
     let low =
-    first_in_slots c.args.from.now (rec_of c.args.q) c.args.start c.args.n c.requires.q_value.0
-    c.requires.q_value.1 c.if-n-eq0.false in
-    let g = fine c.args.from.now (rec_of c.args.q) c.requires.q_value.0 in
+    first_in_slots c.args.from.now (rec_of c.args.q) c.args.start c.args.n c.requires.range_in_queue.0
+    c.requires.range_in_queue.1 c.if-n-eq0.false in
+    let g = fine c.args.from.now (rec_of c.args.q) c.requires.range_in_queue.0 in
     let k = g.good in
     record { first_in_bounds = (omega arith, omega arith, omega arith); dst_in_bounds = (omega arith, c.requires.dst_in_bounds.1, c.requires.dst_in_bounds.2) }
 
@@ -37,8 +37,8 @@ returns-then-n-from c =
     let there = c.as_index-at.ensures in
     c.copy_slice.ensures
     ∙ ap (lay c.args.slots.now c.args.dst.0)
-    (range_straight c.args.from.now (rec_of c.args.q) c.args.start c.args.n c.requires.q_value.0
-    c.requires.q_value.1 c.if-n-eq0.false _ _
+    (range_straight c.args.from.now (rec_of c.args.q) c.args.start c.args.n c.requires.range_in_queue.0
+    c.requires.range_in_queue.1 c.if-n-eq0.false _ _
     (there ∙ c.wrap_add-first.ensures)
     c.if-n-from.true refl)
 
@@ -46,6 +46,6 @@ pub returns-else-n-from : goal.returns-else-n-from
 returns-else-n-from c =
     c.copy_runs_apart.ensures
     ∙ ap (lay c.args.slots.now c.args.dst.0)
-    (range_there c.args.from.now (rec_of c.args.q) c.args.start c.args.n c.requires.q_value.0
-    c.requires.q_value.1 c.if-n-eq0.false _
+    (range_there c.args.from.now (rec_of c.args.q) c.args.start c.args.n c.requires.range_in_queue.0
+    c.requires.range_in_queue.1 c.if-n-eq0.false _
     c.wrap_add-first.ensures)

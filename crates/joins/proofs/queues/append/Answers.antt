@@ -17,7 +17,7 @@ wrap_add-behind-requires c = let k : Appends c.args.slots.now (rec_of c.args.q) 
 pub copy_range-requires : goal.copy_range-requires
 copy_range-requires c =
     let k : Appends c.args.slots.now (rec_of c.args.q) c.args.other_slots.now (rec_of c.args.other) = appends _ _ _ _ (passed_zero _ _ c.check_append.ensures c.in_default.is) in
-    let g = k.ok.good in record { q_value = (change_queue _ _ 0 k.theirs, omega arith); dst_in_bounds = (omega (arith, place_good _ _ g.placed _ g.fits, c.wrap_add-behind.ensures), omega arith, k.ok.few) }
+    let g = k.ok.good in record { range_in_queue = (change_queue _ _ 0 k.theirs, omega arith); dst_in_bounds = (omega (arith, place_good _ _ g.placed _ g.fits, c.wrap_add-behind.ensures), omega arith, k.ok.few) }
 
 pub overflow_add-len : goal.overflow_add-len
 overflow_add-len c = let k : Appends c.args.slots.now (rec_of c.args.q) c.args.other_slots.now (rec_of c.args.other) = appends _ _ _ _ (passed_zero _ _ c.check_append.ensures c.in_default.is) in omega arith

@@ -17,7 +17,7 @@ pub copy_range-requires : goal.copy_range-requires
 copy_range-requires c =
     let k : Splits c.args.slots.now (rec_of c.args.q) c.args.target.now c.args.at = splits _ _ _ _ (passed_zero _ _ c.check_split.ensures c.in_default.is) in
     let within = k.within in
-    record { q_value = (change_queue _ _ 0 k.ours, omega arith); dst_in_bounds = (omega (arith, c.zero.ensures), k.fits, k.few) }
+    record { range_in_queue = (change_queue _ _ 0 k.ours, omega arith); dst_in_bounds = (omega (arith, c.zero.ensures), k.fits, k.few) }
 
 pub returns : goal.returns
 returns c =

@@ -28,7 +28,7 @@ copy_range-requires c =
     let k : Portion c.args.slots.now (rec_of c.args.q) c.args.target.now (rec_of c.args.other) c.args.n = portion _ _ _ _ _ (passed_zero _ _ c.check_portion.ensures c.in_default.is) in
     let g = k.theirs.good in
     let few = c.portion_of-portion.ensures in
-    let behind = c.wrap_add-behind.ensures in record { q_value = (k.first, omega arith); dst_in_bounds = (omega (arith, place_good _ _ g.placed _ g.fits), omega arith, k.theirs.few) }
+    let behind = c.wrap_add-behind.ensures in record { range_in_queue = (k.first, omega arith); dst_in_bounds = (omega (arith, place_good _ _ g.placed _ g.fits), omega arith, k.theirs.few) }
 
 pub overflow_add-theirs : goal.overflow_add-theirs
 overflow_add-theirs c =

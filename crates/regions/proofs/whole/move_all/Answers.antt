@@ -12,7 +12,7 @@ returns-in-Refused c = move_refused _ _ _ _ _ c.check_move.ensures c.in-Refused.
 pub copy_range-requires : goal.copy_range-requires
 copy_range-requires c =
     let k : Whole c.args.slots.now (rec_of c.args.q) c.args.target.now = whole _ _ _ (passed_zero _ _ c.check_move.ensures c.in_default.is) in
-    record { q_value = (k.first, omega arith); dst_in_bounds = (omega (arith, c.zero-first.ensures), k.fits, k.few) }
+    record { range_in_queue = (k.first, omega arith); dst_in_bounds = (omega (arith, c.zero-first.ensures), k.fits, k.few) }
 
 pub returns : goal.returns
 returns c =
