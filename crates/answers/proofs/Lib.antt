@@ -1,3 +1,3 @@
--- `Flat`: how an arm of a match is read. `Fixed`: the one form is fixed by what is said of it.
-pub mod Flat
+-- `Forms`: the one form says of an answer what its call says. `Fixed`: the one form is fixed by what is said of it.
+pub mod Forms
 pub mod Fixed

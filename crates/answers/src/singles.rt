@@ -1,122 +1,75 @@
-// The one form of an answer, and the answers of the calls on one queue that are no drain's.
+// The one form of an answer, and the answers of the calls on one queue and of its drain.
 ghost use Rattle.std.specs.Prelude.{◌≡◌};
 ghost use Rattle.rules.specs.Replays.{rec_or};
-ghost use Rattle.queue.specs.Answers.{number_of, of_change, of_made, rec_of};
+ghost use Rattle.queue.specs.Answers.{changing, number_of, rec_of};
 ghost use Rattle.queue.specs.Drains.{state_of};
-ghost use Rattle.elements.specs.Answers.{of_handed};
-ghost use Rattle.answers.specs.Answers.{made_answer, of_answer};
+ghost use Rattle.elements.specs.Answers.{handing};
+ghost use Rattle.answers.specs.Answers.{of_answer, refusing};
 
-use elements::{Given, Handed};
-use queue::{Change, Deque, Made, Refusal, State};
+use super::keeping::Kept;
+use elements::Handed;
+use queue::{Change, Deque, Refusal, State};
 
-// What a call on one queue answers: the refusal number, 0 if
-// there is none; the moved count; the record; what was given.
+// What a call on one queue answers: why it was refused, if it was; the moved count; the record; what was handed over.
 #[derive(Clone, Copy)]
 pub struct Answer {
-    pub refused: usize,
+    pub refused: Option<Refusal>,
     pub moved: usize,
     pub state: State,
-    pub handed: Given,
+    pub handed: Option<u32>,
 }
 
-// The number of a refusal.
-pub fn number_of(refusal: Refusal) -> usize
-    ensures { result ≡ number_of refusal }
-{
-    match refusal {
-        Refusal::Slots => 1,
-        Refusal::Record => 2,
-        Refusal::Position => 3,
-        Refusal::Room => 4,
-        Refusal::Image => 5,
-        Refusal::Open => 6,
+impl Answer {
+    // The record of the queue, for a caller who keeps no drain open; while one is, the record before.
+    #[tactic(auto, unfolding(rules::specs::Replays::rec_or))]
+    pub fn record_or(self, before: Deque) -> Deque
+        ensures { rec_of result ≡ rec_or (rec_of before) (state_of self.state) }
+    {
+        match self.state {
+            State::Shut(queue) => queue,
+            State::Draining(_) => before,
+        }
     }
 }
 
-// The answer of a call that hands nothing over.
-pub fn of_change(change: Change) -> Answer
-    ensures { of_answer result ≡ of_change change }
+// The answer of a refused call: what was held before it stands, and nothing moved.
+fn refused(before: State, refusal: Refusal) -> Answer
+    ensures { of_answer result ≡ refusing (number_of refusal) 0 (state_of before) }
+{
+    Answer {
+        refused: Some(refusal),
+        moved: 0,
+        state: before,
+        handed: None,
+    }
+}
+
+// The answer of a call that hands nothing over, where `before` was held before it.
+pub fn of_change<R: Kept>(before: State, change: Result<Change<R>, Refusal>) -> Answer
+    ensures { of_answer result ≡ changing R.told (state_of before) change }
 {
     match change {
-        Change::Done { queue, moved } => Answer {
-            refused: 0,
-            moved,
-            state: State::Shut(queue),
-            handed: Given::Nothing,
+        Ok(change) => Answer {
+            refused: None,
+            moved: change.moved,
+            state: change.after.kept(),
+            handed: None,
         },
-        Change::Refused {
-            refusal,
-            queue,
-            moved,
-        } => Answer {
-            refused: number_of(refusal),
-            moved,
-            state: State::Shut(queue),
-            handed: Given::Nothing,
-        },
+        Err(refusal) => refused(before, refusal),
     }
 }
 
-// The answer of a call that hands an element over.
-pub fn of_handed(handed: Handed) -> Answer
-    ensures { of_answer result ≡ of_handed handed }
+// The answer of a call that can hand an element over.
+pub fn of_handed<R: Kept>(before: State, handed: Result<Handed<R>, Refusal>) -> Answer
+    ensures { of_answer result ≡ handing R.told (state_of before) handed }
 {
     match handed {
-        Handed::Number {
-            number,
-            queue,
-            moved,
-        } => Answer {
-            refused: 0,
-            moved,
-            state: State::Shut(queue),
-            handed: Given::Number(number),
+        Ok(handed) => Answer {
+            refused: None,
+            moved: handed.moved,
+            state: handed.after.kept(),
+            handed: handed.number,
         },
-        Handed::Nothing { queue, moved } => Answer {
-            refused: 0,
-            moved,
-            state: State::Shut(queue),
-            handed: Given::Nothing,
-        },
-        Handed::Refused {
-            refusal,
-            queue,
-            moved,
-        } => Answer {
-            refused: number_of(refusal),
-            moved,
-            state: State::Shut(queue),
-            handed: Given::Nothing,
-        },
-    }
-}
-
-// The answer of a call that makes a record; refused, what was held stays.
-pub fn of_made(before: State, made: Made) -> Answer
-    ensures { of_answer result ≡ made_answer (state_of before) (of_made made) }
-{
-    match made {
-        Made::Done { queue, moved } => Answer {
-            refused: 0,
-            moved,
-            state: State::Shut(queue),
-            handed: Given::Nothing,
-        },
-        Made::Refused { refusal, moved } => Answer {
-            refused: number_of(refusal),
-            moved,
-            state: before,
-            handed: Given::Nothing,
-        },
-    }
-}
-
-// The record of a queue, for a caller who keeps no drain open; while one is, the record before.
-pub fn record_or(before: Deque, state: State) -> Deque
-    ensures { rec_of result ≡ rec_or (rec_of before) (state_of state) }
-{
-    match state {
-        State::Shut(queue) => queue,
-        State::Draining(_) => before,
+        Err(refusal) => refused(before, refusal),
     }
 }

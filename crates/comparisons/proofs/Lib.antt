@@ -1,5 +1,4 @@
--- Laws of the lists that are compared, of lists in two runs, and of a look at queues by their runs.
+-- Whether a number stands in a list; lists cut into stretches; a look at two queues by their runs.
 pub mod Has
-pub mod Common
-pub mod InRuns
+pub mod Stretches
 pub mod Queues

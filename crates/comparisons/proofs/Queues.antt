@@ -1,51 +1,53 @@
--- What a call sees in a queue, or in two, by their runs. b, r and b', r': slots and records. Assumes nothing.
-use mathlib.Core.List.{List, ◌++◌}
-use mathlib.Core.Path.{◌≡◌, ap, ◌∙◌}
-use Prim.Native.Nat.{ℕ}
+-- What a call sees in two queues by their lists. b, r and b', r': slots and records. Assumes nothing.
+use mathlib.Core.List.{List}
+use mathlib.Core.Path.{◌≡◌, ap, sym, ◌∙◌}
+use Prim.Native.Nat.{ℕ, zero, suc}
 use lib.ListN.{length}
-use Rattle.queue.proofs.Checks.{failed_number}
-use Rattle.queue.proofs.Looks.{look_past}
-use Rattle.queue.specs.Answers.{number_in, number_of}
-use Rattle.rules.proofs.Refusals.{queue_asks, queue_ok, slots_asks, slots_ok}
-use Rattle.rules.specs.Looks.{sees, look_at, refuses, look_at_both}
-use Rattle.rules.specs.Records.{Rec}
+use Rattle.std.specs.Prelude.{Result, IsErrAnd}
+use Rattle.comparisons.specs.Lists.{both}
+use Rattle.queue.specs.Answers.{number_of}
+use Rattle.queue.specs.Looks.{look_of}
+use Rattle.rules.proofs.Refusals.{queue_go}
+use Rattle.rules.specs.Choices.{unless}
+use Rattle.rules.specs.Looks.{sees, refuses, looked, look_at_both}
+use Rattle.rules.specs.Records.{Rec, held}
 use Rattle.rules.specs.Refusals.{on_queue}
-use Rattle.rules.specs.Runs.{front_run, back_run}
-use Rattle.runs.proofs.Asks.{asks_refused, asks_seen}
-use Rattle.runs.proofs.Whole.{runs-held}
+use Rattle.runs.proofs.Asks.{asks_first, asks_refused, asks_seen, seen_is}
 use Rattle.queue.specs.declared.refusals.Refusal.{Refusal}
-use Rattle.queue.specs.declared.refusals.Checked.{Checked}
-use Rattle.queue.specs.declared.refusals.Checked.TheVariants.{Refused as Failed}
 
--- front and back are the runs of the whole queue: f sees their list
-pub seen_in_runs : {A : Type 0} (f : List ℕ → A) (b : List ℕ) (r : Rec) → on_queue (length b) r 0 ≡ 0
-    → (front back : List ℕ) → front ≡ front_run b r 0 r.len → back ≡ back_run b r 0 r.len
-    → sees (f (front ++ back)) ≡ look_at b r f
-seen_in_runs f b r first front back at_front at_back =
-    look_past b r f first _ (rw (at_front, at_back) (ap f (runs-held b r first)))
-
--- a queue that nothing was refused of passes its own tests
-pub cleared : (c : ℕ) (r : Rec) (k : ℕ) → on_queue c r k ≡ 0 → on_queue c r 0 ≡ 0
-unfolding on_queue
-cleared c r k z = queue_asks c r 0 (queue_ok c r k z).0 ∙ slots_asks c 0 (slots_ok c _ z).0
+-- a look that was refused asked for that number
+asked : {A : Type 0} (n m : ℕ) (u : A) → refuses m ≡ looked n u → m ≡ n
+unfolding looked unless
+asked zero m u e = cc
+asked (suc n) m u e = cc
 
 module _ (b : List ℕ) (r : Rec) (b' : List ℕ) (r' : Rec) where
-  -- which refusal the tests of both give first
-  abbrev pub on_both : ℕ
-  on_both = on_queue (length b) r (on_queue (length b') r' 0)
+  -- at a `?`: refused by the tests of the first queue, or of the second
+  module _ {A B : Type 0} (say : B → A) (f : List ℕ → List ℕ → A) (a : Result B Refusal) (x : Refusal)
+      (is : IsErrAnd a (λ y. y ≡ x)) where
+    pub first_refused : number_of x ≡ on_queue (length b) r 0 → look_of say a ≡ look_at_both b r b' r' f
+    unfolding look_at_both
+    first_refused e = asks_refused _ _ say a x is (asks_first (length b) r _ x e)
 
-  pub both_refused : {A : Type 0} (f : List ℕ → List ℕ → A) (t : Checked) → number_in t ≡ on_both → (x : Refusal)
-      → t ≡ Failed x → refuses (number_of x) ≡ look_at_both b r b' r' f
-  unfolding look_at_both
-  both_refused f t asked x e = asks_refused _ _ x (failed_number t x _ asked e)
+    pub second_refused : on_queue (length b) r 0 ≡ 0 → number_of x ≡ on_queue (length b') r' 0
+        → look_of say a ≡ look_at_both b r b' r' f
+    unfolding look_at_both
+    second_refused first e = asks_refused _ _ say a x is (e ∙ sym (queue_go (length b) r _ first))
 
-  -- past them: front and back, front' and back' are the runs of the whole queues, and f sees their lists
-  pub both_seen : {A : Type 0} (f : List ℕ → List ℕ → A) → on_both ≡ 0
-      → (front back front' back' : List ℕ) → front ≡ front_run b r 0 r.len → back ≡ back_run b r 0 r.len
-      → front' ≡ front_run b' r' 0 r'.len → back' ≡ back_run b' r' 0 r'.len
-      → sees (f (front ++ back) (front' ++ back')) ≡ look_at_both b r b' r' f
+    -- or by both, which the look at the lists themselves asked
+    pub both_refused : refuses (number_of x) ≡ look_at_both b r b' r' both → look_of say a ≡ look_at_both b r b' r' f
+    unfolding look_at_both
+    both_refused e = asks_refused _ _ say a x is (asked _ _ _ e)
+
+  -- past them: l and m are the lists
+  pub lists_seen : on_queue (length b) r 0 ≡ 0 → on_queue (length b') r' 0 ≡ 0 → (l m : List ℕ) → l ≡ held b r
+      → m ≡ held b' r' → sees (l, m) ≡ look_at_both b r b' r' both
   unfolding look_at_both
-  both_seen f passed front back front' back' at_front at_back at-front' at-back' =
-      let ours = runs-held b r (cleared (length b) r _ passed) in
-      let theirs = runs-held b' r' (queue_ok (length b) r _ passed).1 in
-      rw (at_front, at_back, at-front', at-back', ours, theirs) (asks_seen _ _ passed)
+  lists_seen first second l m e e' = rw (e, e') (asks_seen _ _ (queue_go (length b) r _ first ∙ second))
+
+  pub both_seen : {A : Type 0} (f : List ℕ → List ℕ → A) (l m : List ℕ) → sees (l, m) ≡ look_at_both b r b' r' both
+      → (u : A) → u ≡ f l m → sees u ≡ look_at_both b r b' r' f
+  unfolding look_at_both
+  both_seen f l m e u is =
+      let k = seen_is _ _ _ e in
+      ap sees (is ∙ ap (λ t. f t.0 t.1) k.1) ∙ asks_seen _ _ k.0

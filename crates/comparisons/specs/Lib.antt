@@ -1,2 +1,3 @@
--- What two lists have in common.
-pub mod Common
+-- Two lists in runs, and cut into stretches.
+pub mod Lists
+pub mod Stretches

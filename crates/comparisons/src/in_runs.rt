@@ -1,103 +1,79 @@
 // Lists in two runs, a front run and a back run behind it: whether a number stands in one, and how two of them stand
 // to each other.
-ghost use Rattle.std.specs.Prelude.{length, get_or, ◌++◌, ◌≡◌, ◌+◌, ◌<◌};
-ghost use Rattle.rules.specs.Looks.{sees, has, same, order};
-ghost use Rattle.queue.specs.Looks.{of_ordering};
-ghost use Rattle.comparisons.specs.Common.{common_length};
+ghost use Rattle.std.specs.Prelude.{length, ◌≡◌, ◌≤◌};
+ghost use Rattle.rules.specs.Looks.{has, same, order};
+ghost use Rattle.queue.specs.Looks.{order_of};
+ghost use Rattle.runs.specs.Lists.{listed};
+ghost use Rattle.comparisons.specs.Stretches.{joined, CutAlike};
 
-use queue::Ordering;
+use runs::TwoRuns;
+use std::cmp::Ordering;
 
 // Whether x stands in one of the two runs: the first hit ends the walk over both at once.
-pub fn stands_in<'a>(front: &'a [u32], back: &'a [u32], x: u32) -> bool
-    ensures { result ≡ has x (front.now ++ back.now) }
+// Stays: by a rule of the project contains leaves nested run and element loops by a label, and so asks no `contains` of
+// the library.
+pub fn stands_in(runs: TwoRuns, x: u32) -> bool
+    ensures { result ≡ has x (listed runs.entry) }
 {
-    let mut run: usize = 0;
-    let hit = 'walk: loop {
-        if run == 2 {
-            break 'walk false;
-        }
-        let s = if run == 0 { front } else { back };
-        let mut i = 0;
-        while i < s.len() {
-            if s[i] == x {
-                break 'walk true;
+    'walk: {
+        for run in [runs.front, runs.back] {
+            for v in run {
+                if *v == x {
+                    break 'walk true;
+                }
             }
-            i += 1;
         }
-        run += 1;
-    };
-    hit
+        false
+    }
 }
 
-// The element at position i of the two runs, which there is.
-fn element_in(front: &[u32], back: &[u32], i: usize) -> u32
-    requires { i < length front.now + length back.now }
-    ensures { result ≡ get_or (front.now ++ back.now) i 0 }
+// A list in three stretches, one behind the other.
+type Stretches<'a> = [&'a [u32]; 3];
+
+// Two lists cut at the same places, as far as both go: one whose front run is the shorter, or no longer, and the other.
+//
+//   short  |---- front ----|------- back --------|
+//   long   |-------- front --------|--- back ----|
+//          |     start     |middle |     end     |
+fn cut_shorter<'a>(short: TwoRuns<'a>, long: TwoRuns<'a>) -> (Stretches<'a>, Stretches<'a>)
+    requires { length short.front.now ≤ length long.front.now }
+    ensures short { joined result.0 ≡ listed short.entry }
+    ensures long { joined result.1 ≡ listed long.entry }
+    ensures cut { CutAlike result.0 result.1 }
 {
-    let n = front.len();
-    if i < n {
-        return front[i];
-    }
-    back[i - n]
+    let (start, middle) = long.front.split_at(short.front.len());
+    let (back, end) = short.back.split_at(middle.len().min(short.back.len()));
+    ([short.front, back, end], [start, middle, long.back])
 }
 
-// How many elements, from the first on, the two lists have in common.
-fn common_length(front: &[u32], back: &[u32], other_front: &[u32], other_back: &[u32]) -> usize
-    ensures { result ≡ common_length (front.now ++ back.now)
-        (other_front.now ++ other_back.now) }
+// Two lists cut at the same places, as far as both go.
+#[tactic(auto, using(crate::proofs::Stretches::cut_turned))]
+fn cut_alike<'a>(ours: TwoRuns<'a>, theirs: TwoRuns<'a>) -> (Stretches<'a>, Stretches<'a>)
+    ensures ours { joined result.0 ≡ listed ours.entry }
+    ensures theirs { joined result.1 ≡ listed theirs.entry }
+    ensures cut { CutAlike result.0 result.1 }
 {
-    let len = front.len() + back.len();
-    let other_len = other_front.len() + other_back.len();
-    let mut i: usize = 0;
-    while i < len {
-        if i >= other_len {
-            return i;
-        }
-        let v = element_in(front, back, i);
-        let w = element_in(other_front, other_back, i);
-        if v != w {
-            return i;
-        }
-        i += 1;
+    if ours.front.len() <= theirs.front.len() {
+        return cut_shorter(ours, theirs);
     }
-    i
+    let (theirs, ours) = cut_shorter(theirs, ours);
+    (ours, theirs)
 }
 
 // Whether the two lists are the same.
-pub fn same_runs(front: &[u32], back: &[u32], other_front: &[u32], other_back: &[u32]) -> bool
-    ensures { result ≡ same (front.now ++ back.now)
-        (other_front.now ++ other_back.now) }
+#[tactic(auto, using(crate::proofs::Stretches::same_stretches))]
+pub fn same_runs(ours: TwoRuns, theirs: TwoRuns) -> bool
+    ensures { result ≡ same (listed ours.entry) (listed theirs.entry) }
 {
-    let len = front.len() + back.len();
-    let other_len = other_front.len() + other_back.len();
-    if len != other_len {
-        return false;
-    }
-    let n = common_length(front, back, other_front, other_back);
-    n == len
+    let (ours, theirs) = cut_alike(ours, theirs);
+    ours == theirs
 }
 
-// How the first list stands to the second in lexicographic order: never a refusal.
-pub fn order_runs(front: &[u32], back: &[u32], other_front: &[u32], other_back: &[u32]) -> Ordering
-    ensures { of_ordering result ≡ sees (order (front.now ++ back.now)
-        (other_front.now ++ other_back.now)) }
+// How the first list stands to the second in lexicographic order.
+#[tactic(auto, using(crate::proofs::Stretches::order_stretches))]
+pub fn order_runs(ours: TwoRuns, theirs: TwoRuns) -> Ordering
+    ensures { order_of result ≡ order (listed ours.entry) (listed theirs.entry) }
 {
-    let len = front.len() + back.len();
-    let other_len = other_front.len() + other_back.len();
-    let n = common_length(front, back, other_front, other_back);
-    if n == len {
-        if n == other_len {
-            return Ordering::Equal;
-        }
-        return Ordering::Less;
-    }
-    if n == other_len {
-        return Ordering::Greater;
-    }
-    let v = element_in(front, back, n);
-    let w = element_in(other_front, other_back, n);
-    if v < w {
-        return Ordering::Less;
-    }
-    Ordering::Greater
+    let (ours, theirs) = cut_alike(ours, theirs);
+    ours.cmp(&theirs)
 }

@@ -6,6 +6,8 @@ ghost use Rattle.rules.specs.Conditions.{meets};
 ghost use Rattle.conditions.specs.Tests.{test_of};
 
 // What an element is compared with.
+// Stays: a closure takes no place of these, since the rules and contracts of calls name them, and C gives one by its
+// number.
 #[derive(Clone, Copy)]
 pub enum Test {
     Below(u32),
@@ -15,6 +17,7 @@ pub enum Test {
 }
 
 // Whether `x` meets the test.
+#[tactic(auto, unfolding(crate::specs::Tests::test_of, rules::specs::Conditions::meets))]
 pub fn meets(test: Test, x: u32) -> bool
     ensures { result ≡ meets (test_of test) x }
 {

@@ -33,7 +33,7 @@ dst_past cap s d n past = omega arith
 
 -- how far d stands after s, where both stretches run past the last slot and do not meet again round the ring
 pub ahead : (cap s d n rs rd : ℕ) → s < cap → d < cap → step_back cap d s + n ≤ cap → rs ≡ s → rd ≡ d → cap - rd < n
-    → cap - rs - (cap - rd) ≡ step_back cap d s
+    → (cap - rd ≤ cap - rs) × (cap - rs - (cap - rd) ≡ step_back cap d s)
 ahead cap s d n rs rd hs hd apart is id past = let w = way cap s d hs hd in omega arith
 
 -- how far d stands before s, where both run past the last slot and the stretch from s on ends before d

@@ -9,6 +9,7 @@ use places::WrappedIndex;
 use stretches::copy;
 
 // Copies where dst is before src, or clear of the len slots from src on: what stands first is copied first.
+#[tactic(auto, using(crate::proofs::Overlaps::dst_wraps, crate::proofs::Overlaps::behind))]
 fn copy_dst_before_src(slots: &mut [u32], src: WrappedIndex, dst: WrappedIndex, len: usize)
     requires src_in_bounds { (src.0 < length slots.old) × (dst.0 < length slots.old) × (len ≤ length slots.old)
         × (length slots.old ≤ most_slots) }
@@ -78,6 +79,7 @@ fn copy_dst_before_src(slots: &mut [u32], src: WrappedIndex, dst: WrappedIndex, 
 }
 
 // Copies where src is before dst, which is one of the len slots from src on: what stands last is copied first.
+#[tactic(auto, using(crate::proofs::Overlaps::dst_wraps, crate::proofs::Overlaps::ahead))]
 fn copy_src_before_dst(slots: &mut [u32], src: WrappedIndex, dst: WrappedIndex, len: usize)
     requires src_in_bounds { (src.0 < length slots.old) × (dst.0 < length slots.old) × (len ≤ length slots.old)
         × (length slots.old ≤ most_slots) }
@@ -155,7 +157,7 @@ fn wrap_copy_apart(slots: &mut [u32], src: WrappedIndex, dst: WrappedIndex, len:
     requires one_wraps { OneWraps (length slots.old) src.0 dst.0 len }
     ensures { slots.new ≡ copied slots.old src.0 dst.0 len }
 {
-    if src.as_index() == dst.as_index() {
+    if src == dst {
         return;
     }
     let after = places::wrap_sub(slots.len(), dst, src.as_index());
@@ -168,6 +170,7 @@ fn wrap_copy_apart(slots: &mut [u32], src: WrappedIndex, dst: WrappedIndex, len:
 
 // Copies the len slots from src on to dst, where both may run past the last
 // slot and go on in the first. At most one stretch of the two overlaps.
+#[tactic(auto, unfolding(crate::specs::Overlap::OneWraps))]
 pub fn wrap_copy(slots: &mut [u32], src: WrappedIndex, dst: WrappedIndex, len: usize)
     requires src_in_bounds { (src.0 < length slots.old) × (dst.0 < length slots.old) × (len ≤ length slots.old)
         × (length slots.old ≤ most_slots) }

@@ -3,15 +3,16 @@
 
 ghost use Rattle.std.specs.Prelude.{◌≡◌, ◌+◌, ◌-◌, ◌≤◌, ◌<◌, length, take, drop};
 ghost use Rattle.rules.specs.Records.{held};
-ghost use Rattle.rules.specs.Refusals.{on_queue, most_slots};
+ghost use Rattle.rules.specs.Refusals.{most_slots};
 ghost use Rattle.rules.specs.Slots.{lay, list_of};
-ghost use Rattle.queue.specs.Answers.{rec_of};
+ghost use Rattle.queue.specs.Answers.{Fits, rec_of};
 
 use places::WrappedIndex;
 use queue::Deque;
 
 // Copies the `n` elements that stand from `first` on, past the last slot, into other slots from `dst` on: the front
 // run, and behind it the back run.
+#[tactic(auto, using(crate::proofs::Copied::apart))]
 fn copy_runs_apart(
     slots: &mut [u32],
     dst: WrappedIndex,
@@ -23,6 +24,11 @@ fn copy_runs_apart(
     requires dst_in_bounds { (dst.0 < length slots.old) × (n ≤ length slots.old) × (length slots.old ≤ most_slots) }
     ensures { slots.new ≡ lay slots.old dst.0 (list_of from.now first.0 n) }
 {
+    //        . .         F .
+    // from  [C D _ _ _ _ A B]
+    // slots [_ _ _ A B C D _ _]
+    //              D . . .
+    //
     let at = first.as_index();
     let front = from.len() - at;
     let behind = places::wrap_add(slots.len(), dst, front);
@@ -32,6 +38,7 @@ fn copy_runs_apart(
 
 // Copies the `n` elements from position `start` on of the queue `q`, whose slots are `from`, into other slots from
 // `dst` on.
+#[tactic(auto, using(crate::proofs::Copied::range))]
 pub fn copy_range(
     slots: &mut [u32],
     dst: WrappedIndex,
@@ -40,20 +47,19 @@ pub fn copy_range(
     start: usize,
     n: usize,
 )
-    requires range_in_queue { (on_queue (length from.now) (rec_of q) 0 ≡ 0) × (start + n ≤ q.len) }
+    requires range_in_queue { Fits (length from.now) q × (start + n ≤ q.len) }
     requires dst_in_bounds { (dst.0 ≤ length slots.old - 1) × (n ≤ length slots.old) × (length slots.old ≤ most_slots) }
     ensures { slots.new
         ≡ lay slots.old dst.0 (take n (drop start (held from.now (rec_of q)))) }
 {
+    // there may be no slot to copy to
     if n == 0 {
         return;
     }
-    let head = q.head;
-    let first = places::wrap_add(from.len(), head, start);
+    let first = places::wrap_add(from.len(), q.head, start);
     let at = first.as_index();
     if n <= from.len() - at {
-        let end = at + n;
-        copies::copy_slice(slots, dst, &from[at..end]);
+        copies::copy_slice(slots, dst, &from[at..at + n]);
     } else {
         copy_runs_apart(slots, dst, from, first, n);
     }

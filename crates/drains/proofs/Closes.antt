@@ -9,6 +9,11 @@ use lib.Dec.{eqb, ltb, ltb→lt, nltb→le}
 use lib.ListN.{length, take, drop}
 use Rattle.holes.proofs.Closes.{lay-over, hole_closed, joined_head, joined_moved}
 use Rattle.holes.specs.Holes.{closed_hole}
+use Rattle.std.specs.Prelude.{Result, IsErrAnd}
+use Rattle.queue.proofs.Checks.{same_refusal}
+use Rattle.queue.proofs.DrainChecks.{drain_refused}
+use Rattle.queue.specs.Answers.{number_of}
+use Rattle.queue.specs.Drains.{drain_of, of_closed}
 use Rattle.rules.proofs.Drains.{drain_ok, kept_length}
 use Rattle.rules.proofs.Slots.{length_list_of, lay_none}
 use Rattle.rules.proofs.Choices.{by_test}
@@ -19,11 +24,22 @@ use Rattle.rules.specs.Places.{place}
 use Rattle.rules.specs.Records.{Rec, held, stepped}
 use Rattle.rules.specs.Slots.{lay, list_of}
 use Rattle.rules.specs.Choices.{whether, unless}
+use Rattle.queue.specs.declared.refusals.Refusal.{Refusal}
+use Rattle.queue.specs.declared.answers.Change.{Change}
+use Rattle.queue.specs.declared.records.Deque.{Deque}
+use Rattle.queue.specs.declared.records.Drain.{Drain as Draining}
 
 -- the smaller of two
 smaller : (s t : ℕ) → whether (ltb s t) s t ≡ min s t
 smaller s t = by_test (ltb s t) (λ m. m ≡ min s t) (λ lt. omega (arith, ltb→lt s t lt))
     (λ ge. omega (arith, nltb→le s t ge))
+
+-- refused by the tests: the drain stays open, and nothing is written
+pub close_refused : (b : List ℕ) (d : Draining) (a : Result (Change Deque) Refusal) (x : Refusal)
+    → IsErrAnd a (λ y. y ≡ x) → number_of x ≡ on_drain (length b) (drain_of d)
+    → (of_closed d a, b) ≡ told (do_close b (drain_of d))
+unfolding do_close
+close_refused b d a x h e = rw (same_refusal a x h) (drain_refused b (drain_of d) _ x e)
 
 -- an accepted closing: what is kept is laid from the new head
 pub drain_closed : (b b' : List ℕ) (d : Drain) (h' m : ℕ) (r : Rec) → on_drain (length b) d ≡ 0

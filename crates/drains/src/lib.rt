@@ -7,96 +7,76 @@ ghost use Rattle.queue.specs.Answers.{rec_of};
 ghost use Rattle.queue.specs.Drains.{drain_of, of_opened, of_closed};
 ghost use Rattle.elements.specs.Answers.{of_drawn};
 
-use elements::Drawn;
-use queue::{Checked, Closed, Deque, Drain, Opened};
+use elements::Handed;
+use holes::Hole;
+use queue::{Change, Deque, Drain, Refusal};
 
 // Opens a drain of the positions from `start` up to `end`.
-pub fn drain(slots: &[u32], q: Deque, start: usize, end: usize) -> Opened
-    ensures { (of_opened result, slots.now) ≡ told (do_open slots.now (rec_of q) start end) }
+pub fn drain(slots: &[u32], q: Deque, start: usize, end: usize) -> Result<Change<Drain>, Refusal>
+    ensures { (of_opened q result, slots.now) ≡ told (do_open slots.now (rec_of q) start end) }
 {
-    let cap = slots.len();
-    if let Checked::Refused(refusal) = queue::check_change(cap, q) {
-        return Opened::Refused {
-            refusal,
-            queue: q,
-            moved: 0,
-        };
-    }
-    if let Checked::Refused(refusal) = queue::check_range(q.len, start, end) {
-        return Opened::Refused {
-            refusal,
-            queue: q,
-            moved: 0,
-        };
-    }
-    Opened::Done {
-        drain: queue::opened_drain(q, start, end),
+    queue::check_change(slots.len(), q)?;
+    queue::check_range(q.len, start, end)?;
+    Ok(Change {
+        after: queue::opened_drain(q, start, end),
         moved: 0,
-    }
+    })
 }
 
 // Hands the first remaining element over.
-pub fn drain_next(slots: &[u32], d: Drain) -> Drawn
-    ensures { (of_drawn result, slots.now) ≡ told (do_next slots.now (drain_of d)) }
+pub fn drain_next(slots: &[u32], d: Drain) -> Result<Handed<Drain>, Refusal>
+    ensures { (of_drawn d result, slots.now) ≡ told (do_next slots.now (drain_of d)) }
 {
-    let cap = slots.len();
-    if let Checked::Refused(refusal) = queue::check_drain(cap, d) {
-        return Drawn::Refused {
-            refusal,
-            drain: d,
-            moved: 0,
-        };
-    }
+    queue::check_drain(slots.len(), d)?;
     if d.remaining == 0 {
-        return Drawn::Nothing { drain: d, moved: 0 };
+        return Ok(Handed {
+            number: None,
+            after: d,
+            moved: 0,
+        });
     }
-    Drawn::Number {
-        number: elements::element(slots, queue::as_opened(d), d.idx),
-        drain: queue::from_front(d),
+    Ok(Handed {
+        number: Some(elements::element(slots, queue::as_opened(d), d.idx)),
+        after: queue::from_front(d),
         moved: 0,
-    }
+    })
 }
 
 // Hands the last remaining element over.
-pub fn drain_next_back(slots: &[u32], d: Drain) -> Drawn
-    ensures { (of_drawn result, slots.now) ≡ told (do_next_back slots.now (drain_of d)) }
+pub fn drain_next_back(slots: &[u32], d: Drain) -> Result<Handed<Drain>, Refusal>
+    ensures { (of_drawn d result, slots.now) ≡ told (do_next_back slots.now (drain_of d)) }
 {
-    let cap = slots.len();
-    if let Checked::Refused(refusal) = queue::check_drain(cap, d) {
-        return Drawn::Refused {
-            refusal,
-            drain: d,
-            moved: 0,
-        };
-    }
+    queue::check_drain(slots.len(), d)?;
     if d.remaining == 0 {
-        return Drawn::Nothing { drain: d, moved: 0 };
+        return Ok(Handed {
+            number: None,
+            after: d,
+            moved: 0,
+        });
     }
     let last = d.idx + (d.remaining - 1);
-    Drawn::Number {
-        number: elements::element(slots, queue::as_opened(d), last),
-        drain: queue::from_back(d),
+    Ok(Handed {
+        number: Some(elements::element(slots, queue::as_opened(d), last)),
+        after: queue::from_back(d),
         moved: 0,
-    }
+    })
 }
 
 // Closes the drain: what was not handed over leaves, and the queue is whole again.
-pub fn drain_close(slots: &mut [u32], d: Drain) -> Closed
-    ensures { (of_closed result, slots.new) ≡ told (do_close slots.old (drain_of d)) }
+pub fn drain_close(slots: &mut [u32], d: Drain) -> Result<Change<Deque>, Refusal>
+    ensures { (of_closed d result, slots.new) ≡ told (do_close slots.old (drain_of d)) }
 {
-    let cap = slots.len();
-    if let Checked::Refused(refusal) = queue::check_drain(cap, d) {
-        return Closed::Refused {
-            refusal,
-            drain: d,
-            moved: 0,
-        };
-    }
-    let head = d.head;
-    let settled = holes::close_hole(slots, head, d.start, 0, d.drain_len, d.tail_len);
-    let first = settled.head;
-    Closed::Done {
-        queue: queue::closed_record(d, first),
+    queue::check_drain(slots.len(), d)?;
+    let hole = Hole {
+        head: d.head,
+        start: d.start,
+        new: 0,
+        len: d.drain_len,
+        tail: d.tail_len,
+    };
+    let settled = holes::close_hole(slots, hole);
+    Ok(Change {
+        after: queue::closed_record(d, settled.head),
         moved: settled.moved,
-    }
+    })
 }

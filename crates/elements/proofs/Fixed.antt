@@ -1,97 +1,71 @@
 -- The answers that carry an element: each is fixed by what is said of it (see queue/proofs/Fixed). Assumes nothing.
-use mathlib.Core.Option.{Option, none, some}
+use mathlib.Core.Option as maybe
 use mathlib.Core.Path.{◌≡◌, refl, ap}
 use Prim.Native.Nat.{ℕ}
-use Rattle.elements.specs.Answers.{of_given, of_handed, of_drawn, of_found, of_stepped}
-use Rattle.queue.proofs.Fixed.{fixed, named_back, by_number, refused-back, its_deque, its_drain, walk_from}
-use Rattle.queue.proofs.FixedLooks.{by_sight}
+use Rattle.std.specs.Prelude.{Option, None, Some, Result, Ok, Err}
+use Rattle.elements.specs.Answers.{given, of_handed, of_drawn, of_step}
+use Rattle.queue.proofs.Fixed.{fixed, by_number, refused-back, its_deque, its_drain, walk_from}
+use Rattle.queue.proofs.FixedLooks.{one_look}
+use Rattle.queue.specs.Looks.{look_of}
 use Rattle.rules.specs.Choices.{unless}
-use Rattle.rules.specs.Looks.{Look}
 use Rattle.rules.specs.Outcome.{Answer}
 use Rattle.rules.specs.Walks.{WalkStep}
-use Rattle.elements.specs.declared.answers.Given.{Given}
-use Rattle.elements.specs.declared.answers.Given.TheVariants as goal
+use Rattle.queue.specs.declared.records.Deque.{Deque}
+use Rattle.queue.specs.declared.records.Drain.{Drain as Draining}
+use Rattle.queue.specs.declared.records.Walk.{Walk}
+use Rattle.queue.specs.declared.refusals.Refusal.{Refusal}
 use Rattle.elements.specs.declared.answers.Handed.{Handed}
-use Rattle.elements.specs.declared.answers.Handed.TheVariants as handed
-use Rattle.elements.specs.declared.answers.Drawn.{Drawn}
-use Rattle.elements.specs.declared.answers.Drawn.TheVariants as drawn
-use Rattle.elements.specs.declared.answers.Found.{Found}
-use Rattle.elements.specs.declared.answers.Found.TheVariants as found
-use Rattle.elements.specs.declared.answers.Stepped.{Stepped}
-use Rattle.elements.specs.declared.answers.Stepped.TheVariants as stepped
+use Rattle.elements.specs.declared.answers.Step.{Step}
 
--- the answer for a number that is there, or not
-abbrev pub by_given : {A : Type 0} → A → (ℕ → A) → Option ℕ → A
-by_given a f none = a
-by_given a f (some v) = f v
+-- ---- an element, or none
 
--- ---- for each answer the way back, and that it leads back
+abbrev pub given_from : maybe.Option ℕ → Option ℕ
+given_from (maybe.some v) = Some v
+given_from maybe.none = None
 
-abbrev pub given_from : Option ℕ → Given
-given_from v = by_given goal.Nothing goal.Number v
+pub given_back : (a : Option ℕ) → given_from (given a) ≡ a
+given_back (Some v) = refl
+given_back None = refl
 
-pub given_back : (a : Given) → given_from (of_given a) ≡ a
-given_back (goal.Number v) = refl
-given_back goal.Nothing = refl
+pub one_given : (a b : Option ℕ) → given a ≡ given b → a ≡ b
+one_given = fixed given given_from given_back
 
-pub one_given : (a b : Given) → of_given a ≡ of_given b → a ≡ b
-one_given = fixed of_given given_from given_back
+pub one_found : (a b : Result (Option ℕ) Refusal) → look_of given a ≡ look_of given b → a ≡ b
+one_found = one_look given given_from given_back
 
-handed_from : Answer → Handed
+-- ---- for each answer the way back, and that it leads back; q, d, w are what the call was given
+
+handed_from : Answer → Result (Handed Deque) Refusal
 handed_from a =
-    let q = its_deque a.state in
-    let m = a.moved in
-    by_number a.refused (by_given (handed.Nothing q m) (λ v. handed.Number v q m) a.handed)
-    (λ x. handed.Refused x q m)
+    by_number a.refused (record { number = given_from a.handed; after = its_deque a.state; moved = a.moved })
 
-handed-back : (a : Handed) → handed_from (of_handed a) ≡ a
+handed-back : (q : Deque) (a : Result (Handed Deque) Refusal) → handed_from (of_handed q a) ≡ a
 unfolding handed_from unless
-handed-back (handed.Number v q m) = refl
-handed-back (handed.Nothing q m) = refl
-handed-back (handed.Refused x q m) = refused-back x _ (λ y. handed.Refused y q m)
+handed-back q (Ok h) = ap (λ v. Ok (record { number = v; after = h.after; moved = h.moved })) (given_back h.number)
+handed-back q (Err x) = refused-back x _
 
-pub one_handed : (a b : Handed) → of_handed a ≡ of_handed b → a ≡ b
-one_handed = fixed of_handed handed_from handed-back
+pub one_handed : (q : Deque) (a b : Result (Handed Deque) Refusal) → of_handed q a ≡ of_handed q b → a ≡ b
+one_handed q = fixed (of_handed q) handed_from (handed-back q)
 
-drawn_from : Answer → Drawn
+drawn_from : Answer → Result (Handed Draining) Refusal
 drawn_from a =
-    let d = its_drain a.state in
-    let m = a.moved in
-    by_number a.refused (by_given (drawn.Nothing d m) (λ v. drawn.Number v d m) a.handed)
-    (λ x. drawn.Refused x d m)
+    by_number a.refused (record { number = given_from a.handed; after = its_drain a.state; moved = a.moved })
 
-drawn_back : (a : Drawn) → drawn_from (of_drawn a) ≡ a
+drawn_back : (d : Draining) (a : Result (Handed Draining) Refusal) → drawn_from (of_drawn d a) ≡ a
 unfolding drawn_from unless
-drawn_back (drawn.Number v d m) = refl
-drawn_back (drawn.Nothing d m) = refl
-drawn_back (drawn.Refused x d m) = refused-back x _ (λ y. drawn.Refused y d m)
+drawn_back d (Ok h) = ap (λ v. Ok (record { number = v; after = h.after; moved = h.moved })) (given_back h.number)
+drawn_back d (Err x) = refused-back x _
 
-pub one_drawn : (a b : Drawn) → of_drawn a ≡ of_drawn b → a ≡ b
-one_drawn = fixed of_drawn drawn_from drawn_back
+pub one_drawn : (d : Draining) (a b : Result (Handed Draining) Refusal) → of_drawn d a ≡ of_drawn d b → a ≡ b
+one_drawn d = fixed (of_drawn d) drawn_from (drawn_back d)
 
-found_from : Look (Option ℕ) → Found
-found_from = by_sight (by_given found.Nothing found.Number) found.Refused
+step_from : WalkStep → Result Step Refusal
+step_from s = by_number s.refused (record { number = given_from s.gives; walk = walk_from s.walk })
 
-found_back : (a : Found) → found_from (of_found a) ≡ a
-unfolding found_from
-found_back (found.Number v) = refl
-found_back found.Nothing = refl
-found_back (found.Refused x) = ap found.Refused (named_back x)
+step_back : (w : Walk) (a : Result Step Refusal) → step_from (of_step w a) ≡ a
+unfolding step_from unless
+step_back w (Ok s) = ap (λ v. Ok (record { number = v; walk = s.walk })) (given_back s.number)
+step_back w (Err x) = refused-back x _
 
-pub one_found : (a b : Found) → of_found a ≡ of_found b → a ≡ b
-one_found = fixed of_found found_from found_back
-
-stepped_from : WalkStep → Stepped
-stepped_from s =
-    let w = walk_from s.walk in
-    by_number s.refused (by_given (stepped.Nothing w) (λ v. stepped.Number v w) s.gives)
-    (λ x. stepped.Refused x w)
-
-stepped-back : (a : Stepped) → stepped_from (of_stepped a) ≡ a
-unfolding stepped_from unless
-stepped-back (stepped.Number v w) = refl
-stepped-back (stepped.Nothing w) = refl
-stepped-back (stepped.Refused x w) = refused-back x _ (λ y. stepped.Refused y w)
-
-pub one_stepped : (a b : Stepped) → of_stepped a ≡ of_stepped b → a ≡ b
-one_stepped = fixed of_stepped stepped_from stepped-back
+pub one_step : (w : Walk) (a b : Result Step Refusal) → of_step w a ≡ of_step w b → a ≡ b
+one_step w = fixed (of_step w) step_from (step_back w)

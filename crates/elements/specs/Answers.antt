@@ -1,48 +1,38 @@
 -- The answers that carry an element, in the terms of the rules: number and values for each case. Assumes nothing.
-use Rattle.std.proofs.Math.Option.{Option, none, some}
-use Rattle.std.specs.Prelude.{ℕ}
-use Rattle.queue.specs.Answers.{number_of, answer}
-use Rattle.queue.specs.Drains.{drawing}
+use Rattle.std.proofs.Math.Option as maybe
+use Rattle.std.specs.Prelude.{ℕ, Option, None, Some, Result, Ok, Err}
+use Rattle.queue.specs.Answers.{number_of, queued}
+use Rattle.queue.specs.Drains.{drained}
 use Rattle.queue.specs.Looks.{walk_of}
-use Rattle.rules.specs.Looks.{Look, sees, refuses}
-use Rattle.rules.specs.Outcome.{Answer}
+use Rattle.rules.specs.Outcome.{Answer, State}
 use Rattle.rules.specs.Walks.{WalkStep}
-use Rattle.elements.specs.declared.answers.Given.{Given}
-use Rattle.elements.specs.declared.answers.Given.TheVariants as given
+use Rattle.queue.specs.declared.records.Deque.{Deque}
+use Rattle.queue.specs.declared.records.Drain.{Drain as Draining}
+use Rattle.queue.specs.declared.records.Walk.{Walk}
+use Rattle.queue.specs.declared.refusals.Refusal.{Refusal}
 use Rattle.elements.specs.declared.answers.Handed.{Handed}
-use Rattle.elements.specs.declared.answers.Handed.TheVariants as handed
-use Rattle.elements.specs.declared.answers.Drawn.{Drawn}
-use Rattle.elements.specs.declared.answers.Drawn.TheVariants as drawn
-use Rattle.elements.specs.declared.answers.Found.{Found}
-use Rattle.elements.specs.declared.answers.Found.TheVariants as found
-use Rattle.elements.specs.declared.answers.Stepped.{Stepped}
-use Rattle.elements.specs.declared.answers.Stepped.TheVariants as stepped
+use Rattle.elements.specs.declared.answers.Step.{Step}
 
 -- the number that was handed over, if there is one
-abbrev pub of_given : Given → Option ℕ
-of_given (given.Number v) = some v
-of_given given.Nothing = none
+abbrev pub given : Option ℕ → maybe.Option ℕ
+given (Some v) = maybe.some v
+given None = maybe.none
 
-abbrev pub of_handed : Handed → Answer
-of_handed (handed.Number v q m) = answer 0 m q (some v)
-of_handed (handed.Nothing q m) = answer 0 m q none
-of_handed (handed.Refused x q m) = answer (number_of x) m q none
+-- an answer that can hand an element over, where f tells the record that it leaves: refused, `before` stands and nothing
+-- moved
+abbrev pub handing : {R : Type 0} → (R → State) → State → Result (Handed R) Refusal → Answer
+handing f before (Ok h) = record { refused = 0; moved = h.moved; state = f h.after; handed = given h.number }
+handing f before (Err x) = record { refused = number_of x; moved = 0; state = before; handed = maybe.none }
 
--- of `next` and `next_back`: what is handed over and the drain's
--- record after; Nothing, or a refusal number, and the same
-abbrev pub of_drawn : Drawn → Answer
-of_drawn (drawn.Number v d m) = drawing 0 m d (some v)
-of_drawn (drawn.Nothing d m) = drawing 0 m d none
-of_drawn (drawn.Refused x d m) = drawing (number_of x) m d none
+-- of a call on the queue q
+abbrev pub of_handed : Deque → Result (Handed Deque) Refusal → Answer
+of_handed q a = handing queued (queued q) a
 
--- what a look saw, or its refusal number
-abbrev pub of_found : Found → Look (Option ℕ)
-of_found (found.Number v) = sees (some v)
-of_found found.Nothing = sees none
-of_found (found.Refused x) = refuses (number_of x)
+-- of `next` and `next_back` of the drain d
+abbrev pub of_drawn : Draining → Result (Handed Draining) Refusal → Answer
+of_drawn d a = handing drained (drained d) a
 
--- a step: refusal number, the walk after it, and what it gives
-abbrev pub of_stepped : Stepped → WalkStep
-of_stepped (stepped.Number v w) = record { refused = 0; walk = walk_of w; gives = some v }
-of_stepped (stepped.Nothing w) = record { refused = 0; walk = walk_of w; gives = none }
-of_stepped (stepped.Refused x w) = record { refused = number_of x; walk = walk_of w; gives = none }
+-- a walk's step: refusal number, the walk after it, and what it gives; refused, the same walk w
+abbrev pub of_step : Walk → Result Step Refusal → WalkStep
+of_step w (Ok s) = record { refused = 0; walk = walk_of s.walk; gives = given s.number }
+of_step w (Err x) = record { refused = number_of x; walk = walk_of w; gives = maybe.none }

@@ -1,8 +1,8 @@
 // What carries an element: the answers that hand one over or look at one, and the reading of slots.
 #![tactic(auto)]
 
-mod answers; // answers.rt: the answers that carry an element
+mod answers; // answers.rt: what an accepted call answers
 mod slots; // slots.rt: one element, and a record for lent slots
 
-pub use answers::{Drawn, Found, Given, Handed, Stepped, refused};
+pub use answers::{Handed, Step};
 pub use slots::{element, fresh};

@@ -5,7 +5,7 @@ ghost use Rattle.rules.specs.Records.{held};
 ghost use Rattle.rules.specs.Refusals.{on_queue};
 ghost use Rattle.queue.specs.Answers.{rec_of, of_made};
 
-use queue::{Deque, Made, Refusal};
+use queue::{Change, Deque, Refusal};
 
 // The element at position i, which there is.
 pub fn element(slots: &[u32], q: Deque, i: usize) -> u32
@@ -18,17 +18,14 @@ pub fn element(slots: &[u32], q: Deque, i: usize) -> u32
 }
 
 // A record over no element, for slots that the caller lends.
-pub fn fresh(slots: &[u32]) -> Made
+pub fn fresh(slots: &[u32]) -> Result<Change<Deque>, Refusal>
     ensures { (of_made result, slots.now) ≡ told_make (fresh slots.now) }
 {
     if slots.len() > rules::most_slots() {
-        return Made::Refused {
-            refusal: Refusal::Slots,
-            moved: 0,
-        };
+        return Err(Refusal::Slots);
     }
-    Made::Done {
-        queue: queue::new_record(0),
+    Ok(Change {
+        after: queue::new_record(0),
         moved: 0,
-    }
+    })
 }

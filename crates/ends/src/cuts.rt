@@ -5,53 +5,46 @@ ghost use Rattle.rules.specs.Outcome.{told, do_rule};
 ghost use Rattle.queue.specs.Answers.{rec_of, of_change};
 
 use places::WrappedIndex;
-use queue::{Change, Checked, Deque};
+use queue::{Change, Deque, Refusal};
 
 // Keeps the first n.
-pub fn truncate(slots: &[u32], q: Deque, n: usize) -> Change
-    ensures { (of_change result, slots.now) ≡ told (do_rule slots.now (rec_of q) (truncate n)) }
+pub fn truncate(slots: &[u32], q: Deque, n: usize) -> Result<Change<Deque>, Refusal>
+    ensures { (of_change q result, slots.now) ≡ told (do_rule slots.now (rec_of q) (truncate n)) }
 {
-    if let Checked::Refused(refusal) = queue::check_change(slots.len(), q) {
-        return queue::refused(refusal, q);
-    }
+    queue::check_change(slots.len(), q)?;
     if n >= q.len {
-        return Change::Done { queue: q, moved: 0 };
+        return Ok(Change { after: q, moved: 0 });
     }
-    Change::Done {
-        queue: queue::stepped(q, q.head, n),
+    Ok(Change {
+        after: queue::stepped(q, q.head, n),
         moved: 0,
-    }
+    })
 }
 
 // Keeps the last n.
-pub fn truncate_front(slots: &[u32], q: Deque, n: usize) -> Change
-    ensures { (of_change result, slots.now) ≡ told (do_rule slots.now (rec_of q) (truncate_front n)) }
+pub fn truncate_front(slots: &[u32], q: Deque, n: usize) -> Result<Change<Deque>, Refusal>
+    ensures { (of_change q result, slots.now) ≡ told (do_rule slots.now (rec_of q) (truncate_front n)) }
 {
     let cap = slots.len();
-    if let Checked::Refused(refusal) = queue::check_change(cap, q) {
-        return queue::refused(refusal, q);
-    }
+    queue::check_change(cap, q)?;
     let len = q.len;
     if n >= len {
-        return Change::Done { queue: q, moved: 0 };
+        return Ok(Change { after: q, moved: 0 });
     }
     let head = places::wrap_add(cap, q.head, len - n);
-    Change::Done {
-        queue: queue::stepped(q, head, n),
+    Ok(Change {
+        after: queue::stepped(q, head, n),
         moved: 0,
-    }
+    })
 }
 
 // Keeps none, and starts anew at the first slot.
-pub fn clear(slots: &[u32], q: Deque) -> Change
-    ensures { (of_change result, slots.now) ≡ told (do_rule slots.now (rec_of q) clear) }
+pub fn clear(slots: &[u32], q: Deque) -> Result<Change<Deque>, Refusal>
+    ensures { (of_change q result, slots.now) ≡ told (do_rule slots.now (rec_of q) clear) }
 {
-    if let Checked::Refused(refusal) = queue::check_change(slots.len(), q) {
-        return queue::refused(refusal, q);
-    }
-    let head = WrappedIndex::zero();
-    Change::Done {
-        queue: queue::stepped(q, head, 0),
+    queue::check_change(slots.len(), q)?;
+    Ok(Change {
+        after: queue::stepped(q, WrappedIndex::zero(), 0),
         moved: 0,
-    }
+    })
 }

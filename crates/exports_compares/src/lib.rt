@@ -14,7 +14,7 @@ use replies::{OrderReply, RECORD, TruthReply, deque_in};
 pub extern "C" fn scorebucket_contains(slots: &[u32], q: &[usize; RECORD], x: u32) -> TruthReply
     ensures { of_truth_reply result ≡ truth_in_c (look_at slots.now (rec_in q.now) (has x)) }
 {
-    replies::of_truth(comparisons::contains(slots, deque_in(q), x))
+    comparisons::contains(slots, deque_in(q), x).into()
 }
 
 // Whether the two queues hold the same list.
@@ -31,7 +31,7 @@ pub extern "C" fn scorebucket_eq(
 {
     let ours = deque_in(q);
     let theirs = deque_in(other);
-    replies::of_truth(comparisons::eq(slots, ours, other_slots, theirs))
+    comparisons::eq(slots, ours, other_slots, theirs).into()
 }
 
 // How the list of the queue stands to that of the other in lexicographic order.
@@ -48,5 +48,5 @@ pub extern "C" fn scorebucket_cmp(
 {
     let ours = deque_in(q);
     let theirs = deque_in(other);
-    replies::of_ordering(comparisons::cmp(slots, ours, other_slots, theirs))
+    comparisons::cmp(slots, ours, other_slots, theirs).into()
 }

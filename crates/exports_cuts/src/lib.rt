@@ -1,5 +1,5 @@
 // The calls for C and Rust that cut elements off. What crosses is said in `replies`.
-#![tactic(auto)]
+#![tactic(auto, using(replies::proofs::Crossing::crossing))]
 
 ghost use Rattle.std.specs.Prelude.{◌≡◌};
 ghost use Rattle.rules.specs.Ends.{truncate, truncate_front, clear};

@@ -1,5 +1,5 @@
 // The calls for C and Rust of a drain. What crosses is said in `replies`.
-#![tactic(auto)]
+#![tactic(auto, using(replies::proofs::Crossing::crossing))]
 
 ghost use Rattle.std.specs.Prelude.{◌≡◌};
 ghost use Rattle.rules.specs.Outcome.{do_open, do_next, do_next_back, do_close};
@@ -7,7 +7,7 @@ ghost use Rattle.replies.specs.InC.{told_in_c};
 ghost use Rattle.replies.specs.Records.{rec_in, drain_in};
 ghost use Rattle.replies.specs.Replies.{of_reply};
 
-use replies::{DRAIN, RECORD, Reply, closed, deque_in, drain_in, drawn, opened};
+use replies::{DRAIN, RECORD, Reply, changed, deque_in, drain_in, handed};
 
 // Opens a drain of the positions from `start` up to `end`. Until it is closed, its record stands for the queue's.
 #[unsafe(no_mangle)]
@@ -21,7 +21,7 @@ pub extern "C" fn scorebucket_drain(
     ensures { (of_reply result, d.new, slots.now)
         ≡ told_in_c d.old (do_open slots.now (rec_in q.now) start end) }
 {
-    opened(d, drains::drain(slots, deque_in(q), start, end))
+    changed(d, drains::drain(slots, deque_in(q), start, end))
 }
 
 // Hands the first remaining element over.
@@ -31,7 +31,7 @@ pub extern "C" fn scorebucket_drain_next(slots: &[u32], d: &mut [usize; DRAIN]) 
         ≡ told_in_c d.old (do_next slots.now (drain_in d.old)) }
 {
     let before = drain_in(d);
-    drawn(d, drains::drain_next(slots, before))
+    handed(d, drains::drain_next(slots, before))
 }
 
 // Hands the last remaining element over.
@@ -41,7 +41,7 @@ pub extern "C" fn scorebucket_drain_next_back(slots: &[u32], d: &mut [usize; DRA
         ≡ told_in_c d.old (do_next_back slots.now (drain_in d.old)) }
 {
     let before = drain_in(d);
-    drawn(d, drains::drain_next_back(slots, before))
+    handed(d, drains::drain_next_back(slots, before))
 }
 
 // Closes the drain: what was not handed over leaves, and the queue is whole again.
@@ -54,5 +54,5 @@ pub extern "C" fn scorebucket_drain_close(
     ensures { (of_reply result, q.new, slots.new)
         ≡ told_in_c q.old (do_close slots.old (drain_in d.now)) }
 {
-    closed(q, drains::drain_close(slots, drain_in(d)))
+    changed(q, drains::drain_close(slots, drain_in(d)))
 }

@@ -1,6 +1,6 @@
 // The calls for C and Rust that add an element at an end, or hand the one there over. What crosses is said in
 // `replies`.
-#![tactic(auto)]
+#![tactic(auto, using(replies::proofs::Crossing::crossing))]
 
 ghost use Rattle.std.specs.Prelude.{◌≡◌};
 ghost use Rattle.rules.specs.Ends.{pop_front, pop_back, push_back, push_front};

@@ -1,6 +1,6 @@
 // The calls for C and Rust that make a queue, empty or of a saved image, and the one that saves it. What crosses is
 // said in `replies`.
-#![tactic(auto)]
+#![tactic(auto, using(replies::proofs::Crossing::crossing))]
 
 ghost use Rattle.std.specs.Prelude.{◌≡◌};
 ghost use Rattle.rules.specs.Makes.{fresh, read_image};
@@ -9,7 +9,7 @@ ghost use Rattle.replies.specs.Records.{rec_in};
 ghost use Rattle.replies.specs.Replies.{of_count_reply, of_reply};
 ghost use Rattle.exports_images.specs.Images.{writing_told_in_c};
 
-use replies::{CountReply, RECORD, Reply, deque_in, made};
+use replies::{CountReply, RECORD, Reply, changed, deque_in};
 
 // An empty queue over lent slots.
 #[unsafe(no_mangle)]
@@ -17,7 +17,7 @@ pub extern "C" fn scorebucket_fresh(slots: &[u32], q: &mut [usize; RECORD]) -> R
     ensures { (of_reply result, q.new, slots.now)
         ≡ make_told_in_c q.old (fresh slots.now) }
 {
-    made(q, elements::fresh(slots))
+    changed(q, elements::fresh(slots))
 }
 
 // Reads an image into bare slots, and makes the record of its elements.
@@ -30,7 +30,7 @@ pub extern "C" fn scorebucket_read_image(
     ensures { (of_reply result, q.new, slots.new)
         ≡ make_told_in_c q.old (read_image slots.old bytes.now) }
 {
-    made(q, images::read_image(slots, bytes))
+    changed(q, images::read_image(slots, bytes))
 }
 
 // Writes the image of a queue into the first bytes of `target`, and keeps the later ones.
@@ -43,5 +43,5 @@ pub extern "C" fn scorebucket_write_image(
     ensures { (of_count_reply result, target.new)
         ≡ writing_told_in_c slots.now (rec_in q.now) target.old }
 {
-    replies::of_written(images::write_image(slots, deque_in(q), target))
+    images::write_image(slots, deque_in(q), target).into()
 }

@@ -1,5 +1,5 @@
 // The calls for C and Rust on two queues. What crosses is said in `replies`.
-#![tactic(auto)]
+#![tactic(auto, using(replies::proofs::Crossing::crossing))]
 
 ghost use Rattle.std.specs.Prelude.{◌≡◌};
 ghost use Rattle.rules.specs.Pairs.{do_append, do_split};
@@ -7,7 +7,7 @@ ghost use Rattle.replies.specs.InC.{pair_told_in_c};
 ghost use Rattle.replies.specs.Records.{rec_in};
 ghost use Rattle.replies.specs.Replies.{of_reply};
 
-use replies::{RECORD, Reply, deque_in, joined, split};
+use replies::{RECORD, Reply, deque_in, paired};
 
 // Copies the other queue's elements behind ours, and empties the other.
 #[unsafe(no_mangle)]
@@ -24,7 +24,7 @@ pub extern "C" fn scorebucket_append(
 {
     let before = deque_in(q);
     let other_before = deque_in(other);
-    joined(
+    paired(
         q,
         other,
         joins::append(slots, before, other_slots, other_before),
@@ -45,5 +45,5 @@ pub extern "C" fn scorebucket_split_off(
         (do_split slots.now (rec_in q.old) target.old at) }
 {
     let before = deque_in(q);
-    split(q, t, joins::split_off(slots, before, at, target))
+    paired(q, t, joins::split_off(slots, before, at, target))
 }

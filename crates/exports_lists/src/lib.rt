@@ -1,5 +1,5 @@
 // The calls for C and Rust that add a list at an end. What crosses is said in `replies`.
-#![tactic(auto)]
+#![tactic(auto, using(replies::proofs::Crossing::crossing))]
 
 ghost use Rattle.std.specs.Prelude.{◌≡◌};
 ghost use Rattle.rules.specs.Joins.{extend_with, prepend, extend_front, resize};

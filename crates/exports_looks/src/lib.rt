@@ -1,5 +1,5 @@
 // The calls for C and Rust that look at one element, or ask where many stand. What crosses is said in `replies`.
-#![tactic(auto)]
+#![tactic(auto, using(replies::proofs::Crossing::crossing))]
 
 ghost use Rattle.std.specs.Prelude.{◌≡◌};
 ghost use Rattle.rules.specs.Looks.{look_at, at_position, at_back};
@@ -8,7 +8,7 @@ ghost use Rattle.replies.specs.InC.{found_in_c, runs_in_c};
 ghost use Rattle.replies.specs.Records.{rec_in};
 ghost use Rattle.replies.specs.Replies.{of_found_reply};
 
-use replies::{FoundReply, RECORD, RUNS, deque_in, ranged};
+use replies::{FoundReply, RECORD, RUNS, deque_in, looked};
 
 // The element at position i.
 #[unsafe(no_mangle)]
@@ -16,7 +16,7 @@ pub extern "C" fn scorebucket_get(slots: &[u32], q: &[usize; RECORD], i: usize) 
     ensures { of_found_reply result
         ≡ found_in_c (look_at slots.now (rec_in q.now) (at_position i)) }
 {
-    replies::of_found(ends::get(slots, deque_in(q), i))
+    ends::get(slots, deque_in(q), i).into()
 }
 
 // The first element.
@@ -25,7 +25,7 @@ pub extern "C" fn scorebucket_front(slots: &[u32], q: &[usize; RECORD]) -> Found
     ensures { of_found_reply result
         ≡ found_in_c (look_at slots.now (rec_in q.now) (at_position 0)) }
 {
-    replies::of_found(ends::front(slots, deque_in(q)))
+    ends::front(slots, deque_in(q)).into()
 }
 
 // The last element.
@@ -33,7 +33,7 @@ pub extern "C" fn scorebucket_front(slots: &[u32], q: &[usize; RECORD]) -> Found
 pub extern "C" fn scorebucket_back(slots: &[u32], q: &[usize; RECORD]) -> FoundReply
     ensures { of_found_reply result ≡ found_in_c (look_at slots.now (rec_in q.now) at_back) }
 {
-    replies::of_found(ends::back(slots, deque_in(q)))
+    ends::back(slots, deque_in(q)).into()
 }
 
 // The places of the two runs of positions start..end. Gives the refusal number, or 0.
@@ -48,5 +48,5 @@ pub extern "C" fn scorebucket_slice_ranges(
     ensures { (result, places.new)
         ≡ runs_in_c places.old (look_runs slots.now (rec_in q.now) start end) }
 {
-    ranged(places, runs::slice_ranges(slots, deque_in(q), start, end))
+    looked(places, runs::slice_ranges(slots, deque_in(q), start, end))
 }

@@ -1,5 +1,5 @@
 // The calls for C and Rust in a queue's middle. What crosses is said in `replies`.
-#![tactic(auto)]
+#![tactic(auto, using(replies::proofs::Crossing::crossing))]
 
 ghost use Rattle.std.specs.Prelude.{◌≡◌};
 ghost use Rattle.rules.specs.Middle.{insert_at, remove_at};

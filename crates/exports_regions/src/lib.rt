@@ -1,5 +1,5 @@
 // The calls for C and Rust that move a queue into another region. What crosses is said in `replies`.
-#![tactic(auto)]
+#![tactic(auto, using(replies::proofs::Crossing::crossing))]
 
 ghost use Rattle.std.specs.Prelude.{◌≡◌};
 ghost use Rattle.rules.specs.Regions.{do_move, do_portion};
@@ -7,7 +7,7 @@ ghost use Rattle.replies.specs.InC.{pair_told_in_c};
 ghost use Rattle.replies.specs.Records.{rec_in};
 ghost use Rattle.replies.specs.Replies.{of_reply};
 
-use replies::{RECORD, Reply, deque_in, joined, split};
+use replies::{RECORD, Reply, deque_in, paired};
 
 // Fills a bare region with every element, and its record, and empties our queue.
 #[unsafe(no_mangle)]
@@ -22,7 +22,7 @@ pub extern "C" fn scorebucket_move_all(
         (do_move slots.now (rec_in q.old) target.old) }
 {
     let before = deque_in(q);
-    split(q, t, regions::move_all(slots, before, target))
+    paired(q, t, regions::move_all(slots, before, target))
 }
 
 // Moves the first `n` elements, or all if there are fewer, behind the other queue's, whose mark is set while ours keeps
@@ -42,7 +42,7 @@ pub extern "C" fn scorebucket_move_portion(
 {
     let ours = deque_in(q);
     let theirs = deque_in(other);
-    joined(
+    paired(
         q,
         other,
         regions::move_portion(slots, ours, n, target, theirs),

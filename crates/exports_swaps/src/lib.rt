@@ -1,5 +1,5 @@
 // The calls for C and Rust that put an element in another's place. What crosses is said in `replies`.
-#![tactic(auto)]
+#![tactic(auto, using(replies::proofs::Crossing::crossing))]
 
 ghost use Rattle.std.specs.Prelude.{◌≡◌};
 ghost use Rattle.rules.specs.Ends.{exchange, swap_remove_front, swap_remove_back};

@@ -1,5 +1,5 @@
 // The calls for C and Rust of a walk. What crosses is said in `replies`.
-#![tactic(auto)]
+#![tactic(auto, using(replies::proofs::Crossing::crossing))]
 
 ghost use Rattle.std.specs.Prelude.{◌≡◌};
 ghost use Rattle.rules.specs.Walks.{begin_walk, next_step, next_back_step};
@@ -7,7 +7,7 @@ ghost use Rattle.replies.specs.InC.{begun_in_c, step_in_c};
 ghost use Rattle.replies.specs.Records.{rec_in, walk_in};
 ghost use Rattle.replies.specs.Replies.{of_found_reply};
 
-use replies::{FoundReply, RECORD, WALK, begun, deque_in, stepped, walk_in};
+use replies::{FoundReply, RECORD, WALK, deque_in, looked, stepped, walk_in};
 
 // A walk over the whole list. Gives the refusal number, or 0.
 #[unsafe(no_mangle)]
@@ -19,7 +19,7 @@ pub extern "C" fn scorebucket_begin_walk(
     ensures { (result, w.new)
         ≡ begun_in_c w.old (begin_walk slots.now (rec_in q.now)) }
 {
-    begun(w, walks::begin_walk(slots, deque_in(q)))
+    looked(w, walks::begin_walk(slots, deque_in(q)))
 }
 
 // Gives the element at the low end, which steps on by one.

@@ -4,7 +4,7 @@ use mathlib.Core.Path.{◌≡◌, ap, ◌∙◌, sym}
 use Prim.Native.Nat.{ℕ, ◌≤◌, ◌-◌, zero, suc, ◌<◌, ◌+◌}
 use native.Mathlib.Omega.{arith}
 use lib.ListN.{length, take}
-use Rattle.rules.proofs.Places.{place-low, place-back}
+use Rattle.rules.proofs.Places.{place-low, place-back, wrapped-high}
 use Rattle.rules.proofs.Ring.{write-behind, read-write, write-append, write_read}
 use Rattle.rules.proofs.Slots.{lay_none, list_of_take, lay-own}
 use Rattle.rules.specs.Places.{place, step_back}
@@ -19,11 +19,11 @@ lay_first b head (suc n) m good fits le =
 
 module _ (b : List ℕ) (head n : ℕ) (l : List ℕ) (in_ring : head < length b) (fits : n + length l ≤ length b) where
   -- behind
-  pub lay-behind : lay b (place (length b) head n) l ≡ lay b head (list_of b head n ++ l)
+  lay-behind : lay b (place (length b) head n) l ≡ lay b head (list_of b head n ++ l)
   lay-behind = sym (write-behind (length b) b head n l in_ring (omega arith))
 
   -- in front
-  pub lay_before : lay b (step_back (length b) head (length l)) l
+  lay_before : lay b (step_back (length b) head (length l)) l
       ≡ lay b (step_back (length b) head (length l)) (l ++ list_of b head n)
   lay_before =
       let cap = length b in
@@ -39,12 +39,20 @@ module _ (b : List ℕ) (head n : ℕ) (l : List ℕ) (in_ring : head < length b
       ∙ ap (write cap (lay b g l) head) (sym same)
       ∙ write_read cap (lay b g l) head n)
 
--- behind, where there may be no slot at all, and then nothing to lay
+-- where there may be no slot at all, and then nothing to lay
+pub none_laid : (b : List ℕ) (p : ℕ) (l : List ℕ) → length l ≡ 0 → lay b p l ≡ b
+none_laid b p [] e = lay_none b p
+none_laid b p (v ∷ l) e = absurd (omega arith)
+
 pub lay-behind_good : (b : List ℕ) (head n : ℕ) (l : List ℕ) → head ≤ length b - 1 → n + length l ≤ length b
     → lay b (place (length b) head n) l ≡ lay b head (list_of b head n ++ l)
 lay-behind_good b head n [] good fits = lay_none b _ ∙ sym (rw append-nil (lay-own b head n))
 lay-behind_good b head n (v ∷ l) good fits = lay-behind b head n (v ∷ l) (omega arith) fits
 
--- a step within the ring leads into it
-pub place_in : (p cap h i : ℕ) → p ≡ place cap h i → h < cap → i ≤ cap → p < cap
-place_in p cap h i at_p in_ring le = omega (arith, place-low cap h in_ring i le)
+pub lay-before_good : (b : List ℕ) (head n : ℕ) (l : List ℕ) → head ≤ length b - 1 → n + length l ≤ length b
+    → lay b (step_back (length b) head (length l)) l
+    ≡ lay b (step_back (length b) head (length l)) (l ++ list_of b head n)
+lay-before_good b head n [] good fits =
+    let stays : step_back (length b) head 0 ≡ head = wrapped-high _ _ (omega arith) ∙ omega arith in
+    lay_none b _ ∙ sym (ap (λ (h : ℕ). lay b h (list_of b head n)) stays ∙ lay-own b head n)
+lay-before_good b head n (v ∷ l) good fits = lay_before b head n (v ∷ l) (omega arith) fits

@@ -1,40 +1,45 @@
 -- Numbers as bytes, and bytes as numbers. Assumes nothing.
-use mathlib.Core.List.{List, ◌∷◌, ◌++◌, [], append_assoc}
-use mathlib.Core.Path.{◌≡◌, ap, ◌∙◌, refl, sym}
-use Prim.Native.Nat.{ℕ, suc, ◌+◌, ◌≤◌, ◌*◌}
-use native.Mathlib.Omega.{arith}
-use lib.ListN.{length, take, drop, get_or, set}
-use lib.Seq.{drop-cons, sets}
+use Rattle.std.proofs.Common.{◌≡◌, ℕ, suc, ◌+◌, ◌*◌, ◌≤◌, List, [], ◌∷◌, ◌++◌, length, take, drop, set, refl, ap, ◌∙◌, sym, append_assoc, length-take, length-drop, ◌-◌, arith}
+use Rattle.std.proofs.lemmas.List.Edits.{sets, sets-eq}
+use Rattle.std.proofs.lemmas.List.{drop-drop, take_rest}
+use Rattle.std.specs.Int.{from_be_bytes, w16, w32}
+use Rattle.std.specs.Array.{IsFirstChunk}
+use borrow.Rule.Slice.PartMut.{put_mid}
 use Rattle.rules.specs.Images.{big_endian, four_bytes, all_bytes}
 
--- ---- bytes at a position
+-- ---- big-endian, as std reads it
 
--- the byte there, and those behind it
-first_at : (s : List ℕ) (p q k : ℕ) → q ≡ suc p → p + suc k ≤ length s
-    → take (suc k) (drop p s) ≡ get_or s p 0 ∷ take k (drop q s)
-first_at s p q k e h = rw (drop-cons s p 0 (omega arith), e)
-
-pub two_number : (s : List ℕ) (p a b : ℕ) → p + 2 ≤ length s → a ≡ 0 * 256 + get_or s p 0 → b ≡ a * 256 + get_or s (p + 1) 0
-    → b ≡ big_endian 0 (take 2 (drop p s))
+pub two_number : (l : List ℕ) → length l ≡ 2 → from_be_bytes w16 l ≡ big_endian 0 l
 unfolding big_endian
-two_number s p a b h at_a at_b =
-    rw (first_at s p (p + 1) 1 (omega arith) h, first_at s (p + 1) (p + 2) 0 (omega arith) (omega arith), at_b, at_a)
+two_number [] e = absurd (omega arith)
+two_number (a ∷ []) e = absurd (omega arith)
+two_number (a ∷ (b ∷ [])) e = omega arith
+two_number (a ∷ (b ∷ (c ∷ l))) e = absurd (omega arith)
 
-pub four_number : (s : List ℕ) (p a b c d : ℕ) → p + 4 ≤ length s → a ≡ 0 * 256 + get_or s p 0
-    → b ≡ a * 256 + get_or s (p + 1) 0
-    → c ≡ b * 256 + get_or s (p + 2) 0 → d ≡ c * 256 + get_or s (p + 3) 0 → d ≡ big_endian 0 (take 4 (drop p s))
+pub four_number : (l : List ℕ) → length l ≡ 4 → from_be_bytes w32 l ≡ big_endian 0 l
 unfolding big_endian
-four_number s p a b c d h at_a at_b at_c at-d =
-    rw (
-      first_at s p (p + 1) 3 (omega arith) h,
-      first_at s (p + 1) (p + 2) 2 (omega arith) (omega arith),
-      first_at s (p + 2) (p + 3) 1 (omega arith) (omega arith),
-      first_at s (p + 3) (p + 4) 0 (omega arith) (omega arith),
-      at-d,
-      at_c,
-      at_b,
-      at_a,
-    )
+four_number [] e = absurd (omega arith)
+four_number (a ∷ []) e = absurd (omega arith)
+four_number (a ∷ (b ∷ [])) e = absurd (omega arith)
+four_number (a ∷ (b ∷ (c ∷ []))) e = absurd (omega arith)
+four_number (a ∷ (b ∷ (c ∷ (d ∷ [])))) e = omega arith
+four_number (a ∷ (b ∷ (c ∷ (d ∷ (x ∷ l))))) e = absurd (omega arith)
+
+-- as it reads the first bytes of `&s[p..]`
+module _ (s l : List ℕ) (p : ℕ) where
+  there : (n : ℕ) → p + n ≤ length s → IsFirstChunk (take (length s - p) (drop p s)) l n
+      → (length l ≡ n) × (l ≡ take n (drop p s))
+  there n h c =
+      let e : l ≡ take n (drop p s) = c.same ∙ ap (take n) (take_rest s p) in
+      (ap length e ∙ simp (length-take, length-drop) (omega arith), e)
+
+  pub two_there : p + 2 ≤ length s → IsFirstChunk (take (length s - p) (drop p s)) l 2
+      → from_be_bytes w16 l ≡ big_endian 0 (take 2 (drop p s))
+  two_there h c = let k = there 2 h c in two_number l k.0 ∙ ap (big_endian 0) k.1
+
+  pub four_there : p + 4 ≤ length s → IsFirstChunk (take (length s - p) (drop p s)) l 4
+      → from_be_bytes w32 l ≡ big_endian 0 (take 4 (drop p s))
+  four_there h c = let k = there 4 h c in four_number l k.0 ∙ ap (big_endian 0) k.1
 
 -- ---- stores
 
@@ -43,14 +48,11 @@ pub sets_append : (t : List ℕ) (i n : ℕ) (s u : List ℕ) → n ≡ i + leng
 sets_append t i n [] u e = ap (λ (k : ℕ). sets t k u) (omega arith)
 sets_append t i n (a ∷ s) u e = sets_append (set t i a) (suc i) n s u (omega arith)
 
--- a number's four bytes, stored one by one
-pub four_sets : (t : List ℕ) (p v a b c d : ℕ) → a ∷ b ∷ c ∷ d ∷ [] ≡ four_bytes v
-    → set (set (set (set t p a) (p + 1) b) (p + 2) c) (p + 3) d ≡ sets t p (four_bytes v)
-four_sets t p v a b c d e =
-    let p1 : p + 1 ≡ suc p = omega arith in
-    let p2 : p + 2 ≡ suc (suc p) = omega arith in
-    let p3 : p + 3 ≡ suc (suc (suc p)) = omega arith in
-    (λ i. set (set (set (set t p a) (p1 i) b) (p2 i) c) (p3 i) d) ∙ ap (sets t p) e
+-- bytes copied into a part of a list
+pub part_sets : (t l : List ℕ) (i k : ℕ) → k ≡ length l → i + length l ≤ length t → put_mid i k t l ≡ sets t i l
+part_sets t l i k e h =
+    ap (λ (r : List ℕ). take i t ++ (l ++ r)) (ap (λ (n : ℕ). drop n (drop i t)) e ∙ drop-drop (length l) i t)
+    ∙ sym (append_assoc (take i t) l (drop (i + length l) t)) ∙ sym (sets-eq l t i h)
 
 -- ---- the bytes of a list
 

@@ -1,50 +1,27 @@
 -- Image reading: the layout, the elements one by one, and one law for each return. Assumes nothing.
-use mathlib.Core.Bool.{false, true, and-eq-true_iff}
+use mathlib.Core.Bool.{false, true}
 use mathlib.Core.List.{List, ◌++◌, ◌∷◌, []}
 use mathlib.Core.Logic.{◌≢◌}
 use mathlib.Core.Option.{none, some}
-use mathlib.Core.Path.{◌≡◌, refl, ap, ◌∙◌, sym}
-use Prim.Native.Nat.{ℕ, ◌+◌, ◌*◌, ◌-◌, ◌/◌, zero, suc, ◌≤◌, ◌<◌}
-use native.Mathlib.Numerals.{add-one}
+use mathlib.Core.Path.{◌≡◌, refl, ap, ◌∙◌}
+use Prim.Native.Nat.{ℕ, ◌+◌, ◌*◌, ◌-◌, zero, suc, ◌≤◌, ◌<◌}
 use native.Mathlib.Omega.{arith}
-use borrow.Author.Tests.{ne_eqb, eq-eqb, eqb-true, lt-leb}
-use lib.Dec.{leb, eqb}
-use lib.ListN.{length, take, get_or, drop, set}
-use lib.Seq.{drop-drop, sets}
-use Rattle.images.proofs.Bytes.{sets_append}
+use borrow.Author.Tests.{lt-leb}
+use lib.ListN.{length, take, drop}
+use lib.Seq.{drop-drop, sets-eq, length-take-le}
+use Rattle.std.proofs.lemmas.Grind.{common_steps}
+use Rattle.std.proofs.lemmas.List.{take_rest}
 use Rattle.queue.specs.Answers.{number_of}
-use Rattle.rules.proofs.Images.{length-elements}
 use Rattle.rules.proofs.Refusals.{slots_asks, no_room, some_room}
 use Rattle.rules.proofs.Ring.{write_straight}
 use Rattle.rules.proofs.Choices.{unless-stop}
-use Rattle.rules.specs.Images.{most_short, laid_out, how_many, big_endian, fours, elements_in}
+use Rattle.rules.specs.Images.{laid_out, how_many, big_endian, fours, elements_in}
 use Rattle.rules.specs.Makes.{told_make, read_image, none_made, made_with}
 use Rattle.rules.specs.Records.{Rec, new_rec}
 use Rattle.rules.specs.Refusals.{most_slots, on_slots, on_layout, room}
 use Rattle.rules.specs.Slots.{lay}
 use Rattle.rules.specs.Choices.{ask, unless}
 use Rattle.queue.specs.declared.refusals.Refusal.TheVariants.{Slots, Room, Image}
-
--- ---- the layout: one law for each return of `laid_out`
-
-module _ (s : List ℕ) where
-  pub wrong_size : length s ≢ 2 + (1 + 4 * ((length s - 3) / 4)) → false ≡ laid_out s
-  unfolding laid_out how_many
-  wrong_size ne = rw (ne_eqb (length s) (2 + (1 + 4 * ((length s - 3) / 4))) ne)
-
-  module _ (size : length s ≡ 2 + (1 + 4 * ((length s - 3) / 4))) where
-    pub wrong_count : big_endian 0 (take 2 s) ≢ 1 + 4 * ((length s - 3) / 4) → false ≡ laid_out s
-    unfolding laid_out how_many
-    wrong_count ne = rw (eq-eqb _ _ size, ne_eqb (big_endian 0 (take 2 s)) (1 + 4 * ((length s - 3) / 4)) ne)
-
-    module _ (count : big_endian 0 (take 2 s) ≡ 1 + 4 * ((length s - 3) / 4)) where
-      pub wrong_version : get_or s 2 0 ≢ 1 → false ≡ laid_out s
-      unfolding laid_out how_many
-      wrong_version ne = rw (eq-eqb _ _ size, eq-eqb _ _ count, ne_eqb (get_or s 2 0) 1 ne)
-
-      pub right : (m : ℕ) → get_or s 2 0 ≡ 1 → m ≡ most_short → leb ((length s - 3) / 4) m ≡ laid_out s
-      unfolding laid_out how_many
-      right m e most = rw (eq-eqb _ _ size, eq-eqb _ _ count, eq-eqb _ _ e, most)
 
 -- ---- the elements, one by one
 
@@ -53,47 +30,28 @@ unfolding fours
 length-fours zero s = refl
 length-fours (suc n) s = ap suc (length-fours n (drop 4 s))
 
-fours_last : (n : ℕ) (s : List ℕ) → fours (suc n) s ≡ fours n s ++ big_endian 0 (take 4 (drop (4 * n) s)) ∷ []
+pub fours_none : (s : List ℕ) → fours 0 s ≡ []
 unfolding fours
-fours_last zero s = refl
-fours_last (suc n) s =
+fours_none s = refl
+
+-- and the last of them
+pub fours_last : (i n : ℕ) (s : List ℕ) → n ≡ i + 1
+    → fours n s ≡ fours i s ++ big_endian 0 (take 4 (drop (4 * i) s)) ∷ []
+unfolding fours
+fours_last i zero s e = absurd (omega arith)
+fours_last zero (suc n) s e =
+    let none : n ≡ 0 = omega arith in ap (λ (k : ℕ). big_endian 0 (take 4 s) ∷ fours k (drop 4 s)) none
+fours_last (suc i) (suc n) s e =
+    let next : 4 + 4 * i ≡ 4 * suc i = omega arith in
     ap (λ (l : List ℕ). big_endian 0 (take 4 s) ∷ l)
-    (fours_last n (drop 4 s) ∙ ap (λ (x : List ℕ). fours n (drop 4 s) ++ big_endian 0 (take 4 x) ∷ [])
-    (drop-drop (4 * n) 4 s ∙ (λ i. drop (next i) s)))
-  where
-    next : 4 + 4 * n ≡ 4 * suc n
-    next = omega arith
+    (fours_last i n (drop 4 s) (omega arith)
+    ∙ ap (λ (x : List ℕ). fours i (drop 4 s) ++ big_endian 0 (take 4 x) ∷ []) (drop-drop (4 * i) 4 s)
+    ∙ ap (λ (k : ℕ). fours i (drop 4 s) ++ big_endian 0 (take 4 (drop k s)) ∷ []) next)
 
-pub take_none : (b s : List ℕ) → b ≡ sets b 0 (fours 0 (drop 3 s))
-unfolding fours
-take_none b s = refl
-
-pub take_more : (b s b1 : List ℕ) (i v : ℕ) → b1 ≡ sets b 0 (fours i (drop 3 s))
-    → v ≡ big_endian 0 (take 4 (drop (3 + 4 * i) s))
-    → set b1 i v ≡ sets b 0 (fours (i + 1) (drop 3 s))
-take_more b s b1 i v before now =
-    let l = fours i (drop 3 s) in
-    (λ t. set (before t) i (now t))
-    ∙ sets_append b 0 i l (big_endian 0 (take 4 (drop (3 + 4 * i) s)) ∷ []) (omega (arith, length-fours i (drop 3 s)))
-    ∙ ap (λ (x : List ℕ). sets b 0 (l ++ big_endian 0 (take 4 x) ∷ [])) (sym (drop-drop (4 * i) 3 s))
-    ∙ ap (sets b 0) (sym (fours_last i (drop 3 s)))
-    ∙ ap (λ (n : ℕ). sets b 0 (fours n (drop 3 s))) (sym (add-one i))
-
-pub take_all : (b s b1 : List ℕ) (n : ℕ) → n ≤ length b → b1 ≡ sets b 0 (fours n (drop 3 s))
-    → b1 ≡ lay b 0 (fours n (drop 3 s))
-take_all b s b1 n fits e = e ∙ sym
-    (write_straight (length b) b 0 (fours n (drop 3 s)) (omega (arith, length-fours n (drop 3 s))))
+-- for the loop that stores them
+pub ruleset takes = (fours_none, fours_last, common_steps)
 
 -- ---- the returns of `read_image`
-
--- bytes that keep the layout are as many as their elements want
-pub laid_size : (s : List ℕ) → laid_out s ≡ true → length s ≡ 3 + 4 * ((length s - 3) / 4)
-unfolding laid_out how_many
-laid_size s e = omega (
-  arith,
-  eqb-true (length s) (2 + (1 + 4 * ((length s - 3) / 4)))
-      ((and-eq-true_iff (eqb (length s) (2 + (1 + 4 * ((length s - 3) / 4)))) _).0 e).0,
-)
 
 module _ (b s : List ℕ) where
   stopped : (n : ℕ) → n ≢ 0 → on_slots (length b) (on_layout (laid_out s) (room (length b) (how_many s))) ≡ n
@@ -113,16 +71,26 @@ module _ (b s : List ℕ) where
     reads_broken e = stopped 5 (λ z. omega arith) (slots_asks (length b) _ few ∙ rw e)
 
     module _ (laid : laid_out s ≡ true) where
-      pub reads_full : length b < (length s - 3) / 4
+      pub reads_full : length b < how_many s
           → (record { refused = number_of Room; moved = 0; made = none }, b) ≡ told_make (read_image b s)
-      unfolding on_layout ask number_of how_many
+      unfolding on_layout ask number_of
       reads_full lt = stopped 4 (λ z. omega arith) (slots_asks (length b) _ few ∙ rw laid (no_room (length b) _ lt))
 
-      pub reads : (b' : List ℕ) (r : Rec) → (length s - 3) / 4 ≤ length b
-          → b' ≡ lay b 0 (fours ((length s - 3) / 4) (drop 3 s)) → r ≡ new_rec ((length s - 3) / 4)
-          → (record { refused = 0; moved = 0; made = some r }, b') ≡ told_make (read_image b s)
-      unfolding read_image on_layout ask unless made_with elements_in how_many
-      reads b' r fits at_slots made =
-          let none_refused : on_slots (length b) (on_layout (laid_out s) (room (length b) (how_many s))) ≡ 0 =
+      -- l is what is stored in the first n slots
+      pub reads : (n : ℕ) (r : Rec) (l : List ℕ) → n ≡ how_many s → n ≤ length b
+          → l ≡ fours (length (take n b)) (take (length s - 3) (drop 3 s)) → r ≡ new_rec n
+          → (record { refused = 0; moved = 0; made = some r }, l ++ drop n b) ≡ told_make (read_image b s)
+      unfolding read_image on_layout ask unless made_with elements_in
+      reads n r l many fits read made =
+          let none_refused : on_slots (length b) (on_layout (laid_out s) (room (length b) n)) ≡ 0 =
           slots_asks (length b) _ few ∙ rw laid (some_room (length b) _ fits) in
-          rw (none_refused, length-elements s, made, at_slots)
+          let all : l ≡ fours n (drop 3 s) =
+          read ∙ (λ i. fours (length-take-le n b fits i) (take_rest s 3 i)) in
+          let long : 0 + length l ≡ n = omega (arith, ap length all, length-fours n (drop 3 s)) in
+          let stored : lay b 0 l ≡ l ++ drop n b =
+          write_straight (length b) b 0 l (omega arith) ∙ sets-eq l b 0 (omega arith)
+          ∙ ap (λ (k : ℕ). l ++ drop k b) long in
+          rw (← many, none_refused, made, length-fours, ← all, stored)
+
+-- one law for each return
+pub ruleset returns = (reads_slots, reads_broken, reads_full, reads)

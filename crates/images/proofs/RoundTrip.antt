@@ -3,12 +3,15 @@
 use mathlib.Core.Bool.{true, and-eq-true_iff, Bool, false}
 use mathlib.Core.List.{List, ◌∷◌, [], ◌++◌}
 use mathlib.Core.Path.{◌≡◌, ◌∙◌, refl, ap, sym}
-use Prim.Native.Nat.{ℕ, ◌<◌, suc, suc-le-suc, ◌/◌, ◌*◌, ◌+◌, ◌%◌, ◌≤◌, zero}
+use Prim.Native.Nat.{ℕ, ◌<◌, suc, suc-le-suc, ◌*◌, ◌+◌, ◌≤◌, zero}
 use native.Mathlib.Omega.{arith}
 use borrow.Author.Tests.{eq-eqb, le-leb, eqb-true, leb-true}
 use lib.Dec.{eqb}
 use lib.ListN.{length, get_or, take, drop, length-drop}
 use lib.Seq.{get_or-drop}
+use Rattle.std.proofs.lemmas.Nat.{from_be_bytes-to_be_bytes_2, from_be_bytes-to_be_bytes_4, be_bytes_2, be_bytes_4}
+use Rattle.std.proofs.lemmas.List.{get_or-take, length-take-le, take-append-drop}
+use Rattle.images.proofs.Bytes.{two_number, four_number}
 use Rattle.images.proofs.Reading.{length-fours}
 use Rattle.images.proofs.Writing.{length-image}
 use Rattle.rules.proofs.Images.{length-elements}
@@ -37,44 +40,31 @@ rest_below k v l u i lt = u (suc i) (suc-le-suc lt)
 -- ---- bytes of a number, and the number of bytes
 
 two_back : (n : ℕ) → n < 65536 → big_endian 0 (two_bytes n) ≡ n
-unfolding big_endian two_bytes
-two_back n lt = omega arith
-
-with_last : (n : ℕ) → n / 256 * 256 + n % 256 ≡ n
-with_last n = omega arith
+unfolding two_bytes
+two_back n lt = sym (two_number (two_bytes n) refl) ∙ from_be_bytes-to_be_bytes_2 n lt
 
 four_back : (v : ℕ) → v < element_limit → big_endian 0 (four_bytes v) ≡ v
-unfolding big_endian four_bytes
-four_back v lt =
-    let first : 0 * 256 + v / 16777216 % 256 ≡ v / 65536 / 256 = omega arith in
-    let second : v / 65536 ≡ v / 256 / 256 = omega arith in
-    (λ i. ((first i * 256 + v / 65536 % 256) * 256 + v / 256 % 256) * 256 + v % 256)
-    ∙ (λ i. ((with_last (v / 65536) ∙ second) i * 256 + v / 256 % 256) * 256 + v % 256)
-    ∙ (λ i. with_last (v / 256) i * 256 + v % 256)
-    ∙ with_last v
+unfolding four_bytes
+four_back v lt = sym (four_number (four_bytes v) refl) ∙ from_be_bytes-to_be_bytes_4 v lt
 
-two_of : (a b : ℕ) → a < 256 → b < 256 → two_bytes (big_endian 0 (a ∷ b ∷ [])) ≡ a ∷ b ∷ []
-unfolding big_endian two_bytes
-two_of a b la lb =
-    let n = (0 * 256 + a) * 256 + b in
-    let e1 : n / 256 % 256 ≡ a = omega arith in
-    let e2 : n % 256 ≡ b = omega arith in
-    λ i. e1 i ∷ e2 i ∷ []
+-- past the end too, where std reads 0
+byte_at : (l : List ℕ) → EachBelow byte_limit l → (i : ℕ) → get_or l i 0 < byte_limit
+byte_at [] u i = omega arith
+byte_at (x ∷ l) u zero = u 0 (omega arith)
+byte_at (x ∷ l) u (suc i) = byte_at l (rest_below byte_limit x l u) i
 
-four_of : (a b c d : ℕ) → a < 256 → b < 256 → c < 256 → d < 256
-    → four_bytes (big_endian 0 (a ∷ b ∷ c ∷ d ∷ [])) ≡ a ∷ b ∷ c ∷ d ∷ []
-unfolding big_endian four_bytes
-four_of a b c d la lb lc ld =
-    let n = (((0 * 256 + a) * 256 + b) * 256 + c) * 256 + d in
-    let e1 : n / 16777216 % 256 ≡ a = omega arith in
-    let e2 : n / 65536 % 256 ≡ b = omega arith in
-    let e3 : n / 256 % 256 ≡ c = omega arith in
-    let e4 : n % 256 ≡ d = omega arith in
-    λ i. e1 i ∷ e2 i ∷ e3 i ∷ e4 i ∷ []
+two_of : (l : List ℕ) → length l ≡ 2 → EachBelow byte_limit l → two_bytes (big_endian 0 l) ≡ l
+unfolding two_bytes
+two_of l e u = be_bytes_2 l (big_endian 0 l) e (byte_at l u) (sym (two_number l e))
 
-four_below : (a b c d : ℕ) → a < 256 → b < 256 → c < 256 → d < 256 → big_endian 0 (a ∷ b ∷ c ∷ d ∷ []) < element_limit
-unfolding big_endian
-four_below a b c d la lb lc ld = omega arith
+four_of : (l : List ℕ) → length l ≡ 4 → EachBelow byte_limit l → four_bytes (big_endian 0 l) ≡ l
+unfolding four_bytes
+four_of l e u = be_bytes_4 l (big_endian 0 l) e (byte_at l u) (sym (four_number l e))
+
+four_below : (l : List ℕ) → length l ≡ 4 → EachBelow byte_limit l → big_endian 0 l < element_limit
+four_below l e u =
+    let b = byte_at l u in
+    rw (← four_number l e) (omega (arith, b 0, b 1, b 2, b 3))
 
 -- ---- what was written is read
 
@@ -119,32 +109,35 @@ image-elements l u = ap (λ (n : ℕ). fours n (drop 3 (image_of l))) (many-imag
 
 -- ---- what is accepted is the image of its list
 
+-- a number's four bytes come off the front
+module _ (n : ℕ) (s : List ℕ) (e : length s ≡ 4 * suc n) (u : EachBelow byte_limit s) where
+  front_long : length (take 4 s) ≡ 4
+  front_long = length-take-le 4 s (omega arith)
+
+  front_below : EachBelow byte_limit (take 4 s)
+  front_below i lt = rw (get_or-take 4 s i 0 (omega (arith, front_long))) (u i (omega (arith, front_long)))
+
+  behind_long : length (drop 4 s) ≡ 4 * n
+  behind_long = omega (arith, length-drop 4 s)
+
+  behind_below : EachBelow byte_limit (drop 4 s)
+  behind_below i lt = rw (get_or-drop 4 s i 0) (u (4 + i) (omega (arith, behind_long)))
+
 all_fours : (n : ℕ) (s : List ℕ) → length s ≡ 4 * n → EachBelow byte_limit s → all_bytes (fours n s) ≡ s
 unfolding all_bytes fours
 all_fours zero [] e u = refl
 all_fours zero (a ∷ s) e u = absurd (omega arith)
-all_fours (suc n) [] e u = absurd (omega arith)
-all_fours (suc n) (a ∷ []) e u = absurd (omega arith)
-all_fours (suc n) (a ∷ (b ∷ [])) e u = absurd (omega arith)
-all_fours (suc n) (a ∷ (b ∷ (c ∷ []))) e u = absurd (omega arith)
-all_fours (suc n) (a ∷ (b ∷ (c ∷ (d ∷ s)))) e u =
-    let word : four_bytes (big_endian 0 (a ∷ b ∷ c ∷ d ∷ [])) ≡ a ∷ b ∷ c ∷ d ∷ [] =
-    four_of a b c d (u 0 (omega arith)) (u 1 (omega arith)) (u 2 (omega arith)) (u 3 (omega arith)) in
-    let rest : all_bytes (fours n s) ≡ s =
-    all_fours n s (omega arith) (λ i lt. u (suc (suc (suc (suc i)))) (omega arith)) in
-    λ i. word i ++ rest i
+all_fours (suc n) s e u =
+    let word = four_of (take 4 s) (front_long n s e u) (front_below n s e u) in
+    let rest = all_fours n (drop 4 s) (behind_long n s e u) (behind_below n s e u) in
+    (λ i. word i ++ rest i) ∙ take-append-drop 4 s
 
 fours-below : (n : ℕ) (s : List ℕ) → length s ≡ 4 * n → EachBelow byte_limit s → EachBelow element_limit (fours n s)
 unfolding fours
 fours-below zero s e u i lt = absurd (omega arith)
-fours-below (suc n) [] e u i lt = absurd (omega arith)
-fours-below (suc n) (a ∷ []) e u i lt = absurd (omega arith)
-fours-below (suc n) (a ∷ (b ∷ [])) e u i lt = absurd (omega arith)
-fours-below (suc n) (a ∷ (b ∷ (c ∷ []))) e u i lt = absurd (omega arith)
-fours-below (suc n) (a ∷ (b ∷ (c ∷ (d ∷ s)))) e u zero lt =
-    four_below a b c d (u 0 (omega arith)) (u 1 (omega arith)) (u 2 (omega arith)) (u 3 (omega arith))
-fours-below (suc n) (a ∷ (b ∷ (c ∷ (d ∷ s)))) e u (suc i) lt =
-    fours-below n s (omega arith) (λ j k. u (suc (suc (suc (suc j)))) (omega arith)) i (omega arith)
+fours-below (suc n) s e u zero lt = four_below (take 4 s) (front_long n s e u) (front_below n s e u)
+fours-below (suc n) s e u (suc i) lt =
+    fours-below n (drop 4 s) (behind_long n s e u) (behind_below n s e u) i (omega arith)
 
 -- what the layout says, part by part
 record Laid (s : List ℕ) : Type 0 where
@@ -172,6 +165,11 @@ unfolding elements_in
 elements-below s u k = fours-below (how_many s) (drop 3 s) (omega (arith, k.size, length-drop 3 s))
     (λ i lt. rw (get_or-drop 3 s i 0) (u (3 + i) (omega (arith, length-drop 3 s))))
 
+front_two : (a b : ℕ) (s : List ℕ) → EachBelow byte_limit (a ∷ b ∷ s) → EachBelow byte_limit (a ∷ b ∷ [])
+front_two a b s u zero lt = u 0 (omega arith)
+front_two a b s u (suc zero) lt = u 1 (omega arith)
+front_two a b s u (suc (suc i)) lt = absurd (omega arith)
+
 whole : (s : List ℕ) → EachBelow byte_limit s → Laid s → image_of (elements_in s) ≡ s
 unfolding image_of elements_in
 whole [] u k = absurd (omega (arith, k.size))
@@ -183,7 +181,7 @@ whole (a ∷ (b ∷ (v ∷ s))) u k =
     let many : length (fours n s) ≡ n = length-fours n s in
     let count : bytes_after (length (fours n s)) ≡ big_endian 0 (a ∷ b ∷ []) = ap bytes_after many ∙ sym k.count in
     let two : two_bytes (bytes_after (length (fours n s))) ≡ a ∷ b ∷ [] =
-    ap two_bytes count ∙ two_of a b (u 0 (omega arith)) (u 1 (omega arith)) in
+    ap two_bytes count ∙ two_of (a ∷ b ∷ []) refl (front_two a b (v ∷ s) u) in
     let rest : all_bytes (fours n s) ≡ s =
     all_fours n s (omega (arith, k.size)) (λ i lt. u (suc (suc (suc i))) (omega arith)) in
     λ i. two i ++ sym k.versioned i ∷ rest i

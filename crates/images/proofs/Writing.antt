@@ -1,5 +1,8 @@
 -- Image writing: the elements' bytes one behind the other, and one law for each return. Assumes nothing.
 use mathlib.Core.List.{List, ◌++◌, ◌∷◌, []}
+use Rattle.std.specs.Prelude.{Result, IsErrAnd}
+use Rattle.queue.specs.Looks.{seen}
+use Rattle.queue.proofs.Checks.{same_refusal}
 use mathlib.Core.Logic.{◌≢◌}
 use mathlib.Core.Path.{◌≡◌, refl, ◌∙◌, ap, sym}
 use Prim.Native.Nat.{ℕ, ◌<◌, ◌≤◌, ◌+◌, ◌*◌}
@@ -27,23 +30,29 @@ use Rattle.queue.specs.declared.refusals.Refusal.TheVariants.{Room}
 
 -- ---- the elements, one by one
 
-pub put_none : (t b : List ℕ) (h : ℕ) → t ≡ sets t 3 (all_bytes (list_of b h 0))
+pub put_none : (t b : List ℕ) (h : ℕ) → sets t 3 (all_bytes (list_of b h 0)) ≡ t
 unfolding read all_bytes
 put_none t b h = refl
 
-pub put_more : (t b t1 t2 : List ℕ) (h i p : ℕ) → h < length b → i ≤ length b → p ≡ place (length b) h i
-    → t1 ≡ sets t 3 (all_bytes (list_of b h i))
-    → t2 ≡ sets t1 (3 + 4 * i) (four_bytes (get_or b p 0)) → t2 ≡ sets t 3 (all_bytes (list_of b h (i + 1)))
+pub put_more : (t b : List ℕ) (h i p : ℕ) → h < length b → i ≤ length b → p ≡ place (length b) h i
+    → sets (sets t 3 (all_bytes (list_of b h i))) (3 + 4 * i) (four_bytes (get_or b p 0))
+    ≡ sets t 3 (all_bytes (list_of b h (i + 1)))
 unfolding all_bytes four_bytes
-put_more t b t1 t2 h i p in_ring fits at_p before now =
+put_more t b h i p in_ring fits at_p =
     let l = list_of b h i in
     let last : list_of b h (i + 1) ≡ l ++ get_or b p 0 ∷ [] =
     read_add (length b) b h i 1 in_ring fits ∙ rw (read_one, at_p) in
-    now
-    ∙ ap (λ (x : List ℕ). sets x (3 + 4 * i) (four_bytes (get_or b p 0))) before
-    ∙ sets_append t 3 (3 + 4 * i) (all_bytes l) (four_bytes (get_or b p 0))
+    sets_append t 3 (3 + 4 * i) (all_bytes l) (four_bytes (get_or b p 0))
     (omega (arith, length_all l, length_list_of b h i))
     ∙ ap (sets t 3) (sym (ap all_bytes last ∙ all_append l (get_or b p 0 ∷ [])))
+
+-- those of a queue
+pub held_is : (b : List ℕ) (r : Rec) → held b r ≡ list_of b r.head r.len
+unfolding held
+held_is b r = refl
+
+-- for the loop that puts them
+pub ruleset puts = (put_none, put_more, held_is)
 
 -- ---- the returns of `write_image`
 
@@ -53,17 +62,14 @@ unfolding image_of two_bytes
 length-image l = let e = length_all l in omega arith
 
 -- the first three bytes and the elements' are the image; the later bytes stay
-together : (t l : List ℕ) (n : ℕ) → length l ≡ n → 3 + 4 * n ≤ length t
-    → sets (sets t 0 (two_bytes (1 + 4 * n) ++ version ∷ [])) 3 (all_bytes l) ≡ image_of l ++ drop (2 + bytes_after n) t
+together : (t l : List ℕ) → 3 + 4 * length l ≤ length t
+    → sets (sets t 0 (two_bytes (bytes_after (length l)) ++ version ∷ [])) 3 (all_bytes l)
+    ≡ image_of l ++ drop (2 + bytes_after (length l)) t
 unfolding image_of two_bytes
-together t l n e fits =
-    sets_append t 0 3 (two_bytes (1 + 4 * n) ++ version ∷ []) (all_bytes l) refl
-    ∙ ap (λ (k : ℕ). sets t 0 (two_bytes (1 + 4 * k) ++ version ∷ all_bytes l)) (sym e)
-    ∙ sets-eq (image_of l) t 0 (omega (arith, length-image l))
-    ∙ ap (λ (k : ℕ). image_of l ++ drop k t) (size l n e)
-  where
-    size : (l : List ℕ) (n : ℕ) → length l ≡ n → 0 + length (image_of l) ≡ 2 + bytes_after n
-    size l n e = omega (arith, length-image l)
+together t l fits =
+    let size : 0 + length (image_of l) ≡ 2 + bytes_after (length l) = omega (arith, length-image l) in
+    sets_append t 0 3 (two_bytes (bytes_after (length l)) ++ version ∷ []) (all_bytes l) refl
+    ∙ sets-eq (image_of l) t 0 (omega arith) ∙ ap (λ (k : ℕ). image_of l ++ drop k t) size
 
 module _ (b : List ℕ) (r : Rec) (t : List ℕ) where
   -- refused: no byte is written
@@ -75,27 +81,30 @@ module _ (b : List ℕ) (r : Rec) (t : List ℕ) where
     unless-stop n (image_of (held b r) ++ drop (2 + bytes_after r.len) t) t ne,
   )
 
-  -- by the tests of slots and record
-  pub writes_first : (x : Refusal) → on_queue (length b) r 0 ≡ number_of x → (refuses (number_of x), t) ≡ told_writing b r t
+  -- by the tests of slots and record, at a `?`
+  pub writes_first : (a : Result ℕ Refusal) (x : Refusal) → IsErrAnd a (λ y. y ≡ x)
+      → number_of x ≡ on_queue (length b) r 0 → (seen a, t) ≡ told_writing b r t
   unfolding on_writing
-  writes_first x e = stopped (number_of x) (some_number x) (queue-stop (length b) r _ (number_of x) (some_number x) e)
+  writes_first a x h e =
+      let none = some_number x in
+      rw (same_refusal a x h) (stopped (number_of x) none (queue-stop (length b) r _ (number_of x) none (sym e)))
 
   module _ (first : on_queue (length b) r 0 ≡ 0) where
-    pub writes_full : length t < 3 + 4 * r.len → (refuses (number_of Room), t) ≡ told_writing b r t
+    pub writes_full : length t < 2 + bytes_after r.len → (refuses (number_of Room), t) ≡ told_writing b r t
     unfolding on_writing number_of
-    writes_full lt = stopped 4 (λ e. omega arith) (queue_go (length b) r _ first ∙ no_room (length t) _ (omega arith))
+    writes_full lt = stopped 4 (λ e. omega arith) (queue_go (length b) r _ first ∙ no_room (length t) _ lt)
 
     -- the first three bytes are put, then the elements
-    pub writes : (t1 t2 : List ℕ) → 3 + 4 * r.len ≤ length t
-        → t1 ≡ sets t 0 (two_bytes (1 + 4 * r.len) ++ version ∷ [])
-        → t2 ≡ sets t1 3 (all_bytes (list_of b r.head r.len)) → (sees (3 + 4 * r.len), t2) ≡ told_writing b r t
-    unfolding on_writing write_count written looked unless held
+    pub writes : (t1 t2 : List ℕ) → 2 + bytes_after r.len ≤ length t
+        → t1 ≡ sets t 0 (two_bytes (bytes_after r.len) ++ version ∷ []) → t2 ≡ sets t1 3 (all_bytes (held b r))
+        → (sees (2 + bytes_after r.len), t2) ≡ told_writing b r t
+    unfolding on_writing write_count written looked unless
     writes t1 t2 fits at_head at_rest =
-        let l = held b r in
         let none_refused : on_writing (length b) r (length t) ≡ 0 =
-        queue_go (length b) r _ first ∙ some_room (length t) _ (omega arith) in
-        let count : 3 + 4 * r.len ≡ 2 + bytes_after r.len = omega arith in
-        let all : t2 ≡ image_of l ++ drop (2 + bytes_after r.len) t =
-        at_rest ∙ ap (λ (x : List ℕ). sets x 3 (all_bytes l)) at_head
-        ∙ together t l r.len (length-held b r) fits in
-        rw none_refused (λ i. (sees (count i), all i))
+        queue_go (length b) r _ first ∙ some_room (length t) _ fits in
+        let long = length-held b r in
+        let whole = rw long at (together t (held b r) (omega (arith, long))) in
+        rw (none_refused, at_rest, at_head, whole)
+
+-- one law for each return past the tests
+pub ruleset returns = (writes_full, writes)

@@ -1,170 +1,146 @@
 // Saved images: a queue's elements as bytes, and bytes as a queue's elements.
 #![tactic(auto)]
 
-ghost use Rattle.std.specs.Prelude.{◌≡◌, ◌∷◌, [], ◌++◌, ◌+◌, ◌*◌, ◌-◌, ◌≤◌, ◌<◌, length, take, drop};
+ghost use Rattle.std.specs.Prelude.{true, ◌≡◌, ◌∷◌, [], ◌++◌, ◌+◌, ◌*◌, ◌≤◌, ◌<◌, length, take, drop};
 ghost use Rattle.std.proofs.lemmas.List.Edits.{sets};
-ghost use Rattle.rules.specs.Images.{most_short, two_bytes, four_bytes, big_endian, version, all_bytes, laid_out, fours};
+ghost use Rattle.rules.specs.Images.{two_bytes, four_bytes, big_endian, version, all_bytes, how_many, laid_out, fours};
 ghost use Rattle.rules.specs.Makes.{told_make, read_image};
-ghost use Rattle.rules.specs.Slots.{lay, list_of};
-ghost use Rattle.queue.specs.Answers.{rec_of, of_made};
-ghost use Rattle.queue.specs.Looks.{of_written};
+ghost use Rattle.rules.specs.Records.{held};
+ghost use Rattle.queue.specs.Answers.{Fits, rec_of, of_made};
+ghost use Rattle.queue.specs.Looks.{seen};
 ghost use Rattle.images.specs.Answers.{told_writing};
 
-use places::WrappedIndex;
-use queue::{Checked, Deque, Made, Refusal, Written};
+use queue::{Change, Deque, Refusal};
 
-// The number that stands for one byte more behind those that `n` stands for.
-fn with_byte(n: u32, byte: u8) -> u32
-    requires { n < 16777216 }
-    ensures { (result ≡ n * 256 + byte) × (result < (n + 1) * 256) }
-{
-    n * 256 + byte as u32
-}
+// The bytes in front of the elements: two for the number of bytes that follow, and one for the version.
+const FRONT_BYTES: usize = 3;
+
+// The bytes of an element.
+const ELEMENT_BYTES: usize = 4;
+
+// The version of the layout.
+const VERSION: u8 = 1;
+
+// The most elements that an image holds.
+const MOST_ELEMENTS: usize = 16000;
 
 // The number of the two bytes from `at` on, big-endian.
+#[tactic(auto, using(crate::proofs::Bytes::two_there))]
 pub fn two_at(bytes: &[u8], at: usize) -> usize
     requires { at + 2 ≤ length bytes.now }
     ensures { result ≡ big_endian 0 (take 2 (drop at bytes.now)) }
 {
-    let a = with_byte(0, bytes[at]);
-    with_byte(a, bytes[at + 1]) as usize
+    usize::from(u16::from_be_bytes(*bytes[at..].first_chunk().unwrap()))
 }
 
 // The number of the four bytes from `at` on, big-endian.
+#[tactic(auto, using(crate::proofs::Bytes::four_there))]
 pub fn four_at(bytes: &[u8], at: usize) -> u32
     requires { at + 4 ≤ length bytes.now }
     ensures { result ≡ big_endian 0 (take 4 (drop at bytes.now)) }
 {
-    let a = with_byte(0, bytes[at]);
-    let b = with_byte(a, bytes[at + 1]);
-    let c = with_byte(b, bytes[at + 2]);
-    with_byte(c, bytes[at + 3])
+    u32::from_be_bytes(*bytes[at..].first_chunk().unwrap())
 }
 
 // Puts the number of bytes that follow, and the version.
-fn put_head(target: &mut [u8], after: usize)
+#[tactic(auto, using(crate::proofs::Bytes::part_sets), unfolding(rules::specs::Images::two_bytes))]
+fn put_front(target: &mut [u8], after: u16)
     requires { 3 ≤ length target.old }
     ensures { target.new ≡ sets target.old 0 (two_bytes after ++ version ∷ []) }
 {
-    target[0] = (after / 256 % 256) as u8;
-    target[1] = (after % 256) as u8;
-    target[2] = 1;
+    let [high, low] = after.to_be_bytes();
+    target[..FRONT_BYTES].copy_from_slice(&[high, low, VERSION]);
 }
 
 // Puts v as four bytes from `at` on, big-endian.
+#[tactic(auto, using(crate::proofs::Bytes::part_sets), unfolding(rules::specs::Images::four_bytes))]
 fn put_four(target: &mut [u8], at: usize, v: u32)
     requires { at + 4 ≤ length target.old }
     ensures { target.new ≡ sets target.old at (four_bytes v) }
 {
-    target[at] = (v / 16777216 % 256) as u8;
-    target[at + 1] = (v / 65536 % 256) as u8;
-    target[at + 2] = (v / 256 % 256) as u8;
-    target[at + 3] = (v % 256) as u8;
+    target[at..at + ELEMENT_BYTES].copy_from_slice(&v.to_be_bytes());
 }
 
-// Puts the `len` elements from `head` on behind the first three bytes.
-fn put_elements(slots: &[u32], head: WrappedIndex, len: usize, target: &mut [u8])
-    requires { (head.0 ≤ length slots.now - 1) × (len ≤ length slots.now)
-        × (3 + 4 * len ≤ length target.old) }
-    ensures { target.new ≡ sets target.old 3 (all_bytes (list_of slots.now head.0 len)) }
+// Puts the elements of a queue behind the first three bytes.
+#[tactic(auto, using(crate::proofs::Writing::puts))]
+fn put_elements(slots: &[u32], q: Deque, target: &mut [u8])
+    requires { Fits (length slots.now) q × (3 + 4 * q.len ≤ length target.old) }
+    ensures { target.new ≡ sets target.old 3 (all_bytes (held slots.now (rec_of q))) }
 {
-    let cap = slots.len();
-    let mut i: usize = 0;
-    while i < len {
-        let place = places::wrap_add(cap, head, i);
-        let p = place.as_index();
-        put_four(target, 3 + 4 * i, slots[p]);
-        i += 1;
+    for i in 0..q.len {
+        let v = slots[places::wrap_add(slots.len(), q.head, i).as_index()];
+        put_four(target, FRONT_BYTES + ELEMENT_BYTES * i, v);
     }
 }
 
 // Writes the image of a queue into the first bytes of `target`, and keeps the later ones.
-pub fn write_image(slots: &[u32], q: Deque, target: &mut [u8]) -> Written
-    ensures { (of_written result, target.new) ≡ told_writing slots.now (rec_of q) target.old }
+#[tactic(auto, using(crate::proofs::Writing::returns))]
+pub fn write_image(slots: &[u32], q: Deque, target: &mut [u8]) -> Result<usize, Refusal>
+    ensures { (seen result, target.new) ≡ told_writing slots.now (rec_of q) target.old }
 {
-    let cap = slots.len();
-    if let Checked::Refused(refusal) = queue::check(cap, q) {
-        return Written::Refused(refusal);
-    }
-    let len = q.len;
-    let count = 3 + 4 * len;
+    queue::check(slots.len(), q)?;
+    let after = 1 + ELEMENT_BYTES * q.len;
+    let count = 2 + after;
     if target.len() < count {
-        return Written::Refused(Refusal::Room);
+        return Err(Refusal::Room);
     }
-    put_head(target, 1 + 4 * len);
-    put_elements(slots, q.head, len, target);
-    Written::Bytes(count)
+    put_front(target, after as u16);
+    put_elements(slots, q, target);
+    Ok(count)
 }
 
-// The most elements that an image holds.
-fn most_short() -> usize
-    ensures { result ≡ most_short }
+// How many elements the bytes hold behind the first three.
+#[tactic(auto, unfolding(rules::specs::Images::how_many))]
+fn how_many(bytes: &[u8]) -> usize
+    ensures count { result ≡ how_many bytes.now }
+    ensures within { 4 * result ≤ length bytes.now }
 {
-    16000
+    bytes.len().saturating_sub(FRONT_BYTES) / ELEMENT_BYTES
 }
 
 // Whether the bytes keep the layout of an image.
+#[tactic(auto, using(std::proofs::lemmas::Bool::Decides::nat_tests), unfolding(rules::specs::Images::laid_out))]
 fn laid_out(bytes: &[u8]) -> bool
-    ensures { result ≡ laid_out bytes.now }
+    ensures layout { result ≡ laid_out bytes.now }
+    ensures size { result ≡ true → length bytes.now ≡ 3 + 4 * how_many bytes.now }
 {
-    let size = bytes.len();
-    if size < 3 {
-        return false;
-    }
-    let n = (size - 3) / 4;
-    let after = 1 + 4 * n;
-    if size != 2 + after {
-        return false;
-    }
-    if two_at(bytes, 0) != after {
-        return false;
-    }
-    let seen = bytes[2];
-    if seen != 1 {
-        return false;
-    }
-    n <= most_short()
+    let n = how_many(bytes);
+    let after = 1 + ELEMENT_BYTES * n;
+    bytes.len() == 2 + after
+        && two_at(bytes, 0) == after
+        && bytes[2] == VERSION
+        && n <= MOST_ELEMENTS
 }
 
-// Puts the numbers of the first n times four bytes behind the first three into the first n slots.
-fn take_elements(slots: &mut [u32], bytes: &[u8], n: usize)
-    requires { (n ≤ length slots.old) × (3 + 4 * n ≤ length bytes.now) }
-    ensures { slots.new ≡ lay slots.old 0 (fours n (drop 3 bytes.now)) }
+// Fills the slots with the numbers of four bytes each.
+#[tactic(auto, using(crate::proofs::Reading::takes))]
+fn take_elements(slots: &mut [u32], bytes: &[u8])
+    requires { 4 * length slots.old ≤ length bytes.now }
+    ensures { slots.new ≡ fours (length slots.old) bytes.now }
 {
-    let mut i: usize = 0;
-    while i < n {
-        slots[i] = four_at(bytes, 3 + 4 * i);
-        i += 1;
+    for (i, slot) in slots.iter_mut().enumerate() {
+        *slot = four_at(bytes, ELEMENT_BYTES * i);
     }
 }
 
 // Reads an image into bare slots, and makes the record of its elements.
-pub fn read_image(slots: &mut [u32], bytes: &[u8]) -> Made
+#[tactic(auto, using(crate::proofs::Reading::returns), unfolding(queue::specs::Answers::number_of))]
+pub fn read_image(slots: &mut [u32], bytes: &[u8]) -> Result<Change<Deque>, Refusal>
     ensures { (of_made result, slots.new) ≡ told_make (read_image slots.old bytes.now) }
 {
-    let cap = slots.len();
-    if cap > rules::most_slots() {
-        return Made::Refused {
-            refusal: Refusal::Slots,
-            moved: 0,
-        };
+    if slots.len() > rules::most_slots() {
+        return Err(Refusal::Slots);
     }
-    if laid_out(bytes) {
-        let n = (bytes.len() - 3) / 4;
-        if cap < n {
-            return Made::Refused {
-                refusal: Refusal::Room,
-                moved: 0,
-            };
-        }
-        take_elements(slots, bytes, n);
-        return Made::Done {
-            queue: queue::new_record(n),
-            moved: 0,
-        };
+    if !laid_out(bytes) {
+        return Err(Refusal::Image);
     }
-    Made::Refused {
-        refusal: Refusal::Image,
+    let n = how_many(bytes);
+    if slots.len() < n {
+        return Err(Refusal::Room);
+    }
+    take_elements(&mut slots[..n], &bytes[FRONT_BYTES..]);
+    Ok(Change {
+        after: queue::new_record(n),
         moved: 0,
-    }
+    })
 }

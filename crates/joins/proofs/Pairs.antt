@@ -1,20 +1,13 @@
 -- What the calls on two queues do: one law for each return. b,
 -- r: our slots and record; b', r': the other's. Assumes nothing.
-use mathlib.Core.List.{List}
+use Rattle.std.proofs.Common.{◌≡◌, ℕ, ◌+◌, ◌-◌, ◌≤◌, min, List, length, take, drop, ◌∙◌, sym, ap, take_all, length-drop, arith}
 use mathlib.Core.Option.{none, some}
-use mathlib.Core.Path.{◌≡◌, ◌∙◌, ap}
-use Prim.Native.Nat.{ℕ, ◌+◌, ◌-◌, min}
-use native.Mathlib.Omega.{arith}
-use lib.ListN.{length, take, drop, length-drop}
-use lib.Seq.{take_all}
-use Rattle.extends.proofs.Asks.{appends}
 use Rattle.extends.proofs.Behind.{lay-behind_good}
-use Rattle.queue.proofs.Checks.{failed_number}
 use Rattle.queue.proofs.Numbers.{some_number}
-use Rattle.queue.specs.Answers.{number_in, number_of}
+use Rattle.queue.specs.Answers.{number_of}
 use Rattle.rules.proofs.Held.{length-held}
 use Rattle.rules.proofs.Made.{map-brought}
-use Rattle.rules.proofs.Pairs.{split_ok}
+use Rattle.rules.proofs.Places.{place_good}
 use Rattle.rules.proofs.Slots.{lay-own, length_list_of, lay_none, list_of_take_good}
 use Rattle.rules.proofs.Choices.{unless-stop}
 use Rattle.rules.specs.Ends.{truncate, clear}
@@ -27,52 +20,50 @@ use Rattle.rules.specs.Records.{Rec, held, stepped, new_rec}
 use Rattle.rules.specs.Slots.{lay, list_of}
 use Rattle.rules.specs.Choices.{unless}
 use Rattle.queue.specs.declared.refusals.Refusal.{Refusal}
-use Rattle.queue.specs.declared.refusals.Checked.{Checked}
-use Rattle.queue.specs.declared.refusals.Checked.TheVariants.{Refused as Failed}
 
 -- ---- `append`
 
 module _ (b : List ℕ) (r : Rec) (b' : List ℕ) (r' : Rec) where
   -- refused: the same records, moved 0, and nothing is written
-  pub append-refused : (t : Checked) (x : Refusal) → number_in t ≡ on_appending (length b) r (length b') r' → t ≡ Failed x
+  pub append_refused : (x : Refusal) → number_of x ≡ on_appending (length b) r (length b') r'
       → (record { refused = number_of x; moved = 0; rec = r; other = some r' }, b, b') ≡ told_pair (do_append b r b' r')
   unfolding do_append
-  append-refused t x asked f = rw (failed_number t x _ asked f, unless-stop (number_of x) _ _ (some_number x))
+  append_refused x asked = rw (sym asked, unless-stop (number_of x) _ _ (some_number x))
 
-  -- accepted: the other's elements, from its first on, are laid behind our last; h is the first slot
-  pub append-done : on_appending (length b) r (length b') r' ≡ 0 → (p h : ℕ) (q o : Rec) (c : List ℕ)
-      → p ≡ place (length b) r.head r.len → c ≡ lay b p (take r'.len (held b' r')) → h ≡ 0
-      → q ≡ stepped r r.head (r.len + r'.len) → o ≡ stepped r' h 0
+  -- accepted: the other's elements, from its first on, are laid behind our last
+  pub append_done : 0 ≡ on_appending (length b) r (length b') r' → r.head ≤ length b - 1 → r.len + r'.len ≤ length b
+      → (q o : Rec) (c : List ℕ) → q ≡ stepped r r.head (r.len + r'.len) → o ≡ stepped r' 0 0
+      → c ≡ lay b (place (length b) r.head r.len) (take r'.len (held b' r'))
       → (record { refused = 0; moved = r'.len; rec = q; other = some o }, c, b') ≡ told_pair (do_append b r b' r')
   unfolding do_append appended crossing accepted rec_after extend_with clear unless stepped held
-  append-done none_asked p h q o c at_p laid at_first made Made-other =
-      let k = appends b r b' r' none_asked in
+  append_done none_asked placed fits q o c made made_other laid =
       let all = take_all r'.len (held b' r') (omega (arith, length-held b' r')) in
-      let g = k.ok.good in
-      let behind =
-      lay-behind_good b r.head r.len (held b' r') g.placed (omega (arith, length-held b' r', k.fits)) in
-      rw (none_asked, map-brought, length_list_of, lay_none, laid, at_p, all, behind, made, Made-other, at_first)
+      let behind = lay-behind_good b r.head r.len (held b' r') placed (omega (arith, length-held b' r')) in
+      rw (sym none_asked, map-brought, length_list_of, lay_none, laid, all, behind, made, made_other)
 
 -- ---- `split_off`
 
 module _ (b : List ℕ) (r : Rec) (b' : List ℕ) (s : ℕ) where
   -- refused: the same record, moved 0, no record is made, and nothing is written
-  pub split_refused : (t : Checked) (x : Refusal) → number_in t ≡ on_splitting (length b) r (length b') s → t ≡ Failed x
+  pub split_refused : (x : Refusal) → number_of x ≡ on_splitting (length b) r (length b') s
       → (record { refused = number_of x; moved = 0; rec = r; other = none }, b, b') ≡ told_pair (do_split b r b' s)
   unfolding do_split
-  split_refused t x asked f = rw (failed_number t x _ asked f, unless-stop (number_of x) _ _ (some_number x))
+  split_refused x asked = rw (sym asked, unless-stop (number_of x) _ _ (some_number x))
 
-  -- accepted: the later elements are laid from the target's first slot on
-  pub split_done : on_splitting (length b) r (length b') s ≡ 0 → (d : ℕ) (q o : Rec) (c : List ℕ) → d ≡ 0
-      → c ≡ lay b' d (take (r.len - s) (drop s (held b r))) → q ≡ stepped r r.head s → o ≡ new_rec (r.len - s)
-      → (record { refused = 0; moved = r.len - s; rec = q; other = some o }, b, c) ≡ told_pair (do_split b r b' s)
+  -- accepted: the later elements, of which there are m, are laid from the target's first slot on
+  pub split_done : 0 ≡ on_splitting (length b) r (length b') s → r.head ≤ length b - 1 → r.len ≤ length b → s ≤ r.len
+      → (m : ℕ) (q o : Rec) (c : List ℕ) → m ≡ r.len - s → q ≡ stepped r r.head s → o ≡ new_rec m
+      → c ≡ lay b' 0 (take m (drop s (held b r)))
+      → (record { refused = 0; moved = m; rec = q; other = some o }, b, c) ≡ told_pair (do_split b r b' s)
   unfolding do_split splitted crossing accepted rec_after truncate made_with unless stepped held
-  split_done none_asked d q o c at_first laid made Made-other =
+  split_done none_asked placed fits within m q o c later made made_other laid =
       let all = take_all (r.len - s) (drop s (held b r)) (omega (arith, length-drop s (held b r), length-held b r)) in
-      let k = split_ok (length b) r (length b') s none_asked in
-      let g = k.0 in
-      let first : min s r.len ≡ s = omega (arith, k.1) in
+      let first : min s r.len ≡ s = omega arith in
       let same : lay b r.head (take s (list_of b r.head r.len)) ≡ b =
-      ap (lay b r.head) (list_of_take_good b r.head g.placed s r.len k.1 g.fits)
-      ∙ lay-own b r.head s in
-      rw (none_asked, same, first, length-drop, length_list_of, laid, at_first, all, made, Made-other)
+      ap (lay b r.head) (list_of_take_good b r.head placed s r.len within fits) ∙ lay-own b r.head s in
+      rw (sym none_asked, same, first, length-drop, length_list_of, laid, made, made_other, later, all)
+
+-- one law for each return
+pub ruleset appends = (append_refused, append_done, place_good)
+
+pub ruleset splits = (split_refused, split_done)

@@ -1,12 +1,14 @@
 -- A journal's record as it is read: it is fixed by what is said of it (see queue/proofs/Fixed). Assumes nothing.
 use mathlib.Core.Path.{◌≡◌, refl, ap}
+use Rattle.std.specs.Prelude.{Option, None, Some, Result, Ok, Err}
 use Rattle.journals.specs.Records.{entry_for, of_record}
 use Rattle.queue.proofs.Fixed.{fixed}
 use Rattle.rules.specs.Journals.{Entry, do_push_back, do_push_front, do_pop_front, do_pop_back, do_drain, do_truncate, do_truncate_front, do_insert, do_remove, Got, taken, broken, cut, ended}
-use Rattle.journals.specs.declared.records.Operation.{Operation}
-use Rattle.journals.specs.declared.records.Operation.TheVariants.{PushBack, PushFront, PopFront, PopBack, Drain, Truncate, TruncateFront, Insert, Remove}
+use Rattle.journals.specs.declared.kinds.Operation.{Operation}
+use Rattle.journals.specs.declared.kinds.Operation.TheVariants.{PushBack, PushFront, PopFront, PopBack, Drain, Truncate, TruncateFront, Insert, Remove}
+use Rattle.journals.specs.declared.records.Fault.{Fault}
+use Rattle.journals.specs.declared.records.Fault.TheVariants.{Broken, Cut}
 use Rattle.journals.specs.declared.records.Record.{Record}
-use Rattle.journals.specs.declared.records.Record.TheVariants.{Taken as Read, Broken, Cut, End}
 
 operation_from : Entry → Operation
 operation_from (do_push_back v) = PushBack v
@@ -34,18 +36,19 @@ operation_back (Remove i) = refl
 pub one_operation : (a b : Operation) → entry_for a ≡ entry_for b → a ≡ b
 one_operation = fixed entry_for operation_from operation_back
 
-record_from : Got → Record
-record_from (taken o p) = Read (operation_from o) p
-record_from broken = Broken
-record_from cut = Cut
-record_from ended = End
+record_from : Got → Result (Option Record) Fault
+record_from (taken o p) = Ok (Some (record { operation = operation_from o; next = p }))
+record_from broken = Err Broken
+record_from cut = Err Cut
+record_from ended = Ok None
 
-record_back : (a : Record) → record_from (of_record a) ≡ a
+record_back : (a : Result (Option Record) Fault) → record_from (of_record a) ≡ a
 unfolding record_from
-record_back (Read o p) = ap (λ (x : Operation). Read x p) (operation_back o)
-record_back Broken = refl
-record_back Cut = refl
-record_back End = refl
+record_back (Ok (Some r)) =
+    ap (λ (x : Operation). Ok (Some (record { operation = x; next = r.next }))) (operation_back r.operation)
+record_back (Ok None) = refl
+record_back (Err Broken) = refl
+record_back (Err Cut) = refl
 
-pub one_record : (a b : Record) → of_record a ≡ of_record b → a ≡ b
+pub one_record : (a b : Result (Option Record) Fault) → of_record a ≡ of_record b → a ≡ b
 one_record = fixed of_record record_from record_back

@@ -1,5 +1,4 @@
--- What the functions' proofs cite: the layout of a record, and the answers.
+-- What the functions' proofs cite: a drain that is closed as soon as it is open.
 -- `Fixed`: a record that is read is fixed by what is said of it.
-pub mod RecordBytes
 pub mod Performs
 pub mod Fixed

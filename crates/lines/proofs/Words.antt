@@ -11,8 +11,8 @@ use Rattle.rules.specs.Journals.{Entry}
 use Rattle.rules.specs.Outcome.{Answer}
 use Rattle.rules.specs.Records.{Rec}
 use Rattle.rules.specs.Replays.{space, newline, decimal, spaced, line_of, number_or_none, handed_word, answer_line, broken_line, rec_or}
-use Rattle.journals.specs.declared.records.Operation.{Operation}
-use Rattle.journals.specs.declared.records.Operation.TheVariants.{PushBack, PushFront, PopFront, PopBack, Drain, Truncate, TruncateFront, Insert, Remove}
+use Rattle.journals.specs.declared.kinds.Operation.{Operation}
+use Rattle.journals.specs.declared.kinds.Operation.TheVariants.{PushBack, PushFront, PopFront, PopBack, Drain, Truncate, TruncateFront, Insert, Remove}
 
 spaced-append : (u v : List (List ℕ)) → spaced (u ++ v) ≡ spaced u ++ spaced v
 unfolding spaced

@@ -9,11 +9,11 @@ fn put_digits(out: &mut [u8], at: usize, n: usize) -> usize
     ensures { Puts out.old out.new at result (decimal n) }
 {
     if n < 10 {
-        out[at] = (48 + n) as u8;
+        out[at] = b'0' + n as u8;
         return at + 1;
     }
     let last = put_digits(out, at, n / 10);
-    out[last] = (48 + n % 10) as u8;
+    out[last] = b'0' + (n % 10) as u8;
     last + 1
 }
 

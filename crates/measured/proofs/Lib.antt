@@ -1,2 +1,2 @@
--- `Copies`: one law for each outcome of the copy.
+-- `Copies`: the copy refused and made.
 pub mod Copies

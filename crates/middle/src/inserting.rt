@@ -3,19 +3,17 @@ ghost use Rattle.std.specs.Prelude.{◌≡◌, ◌≤◌, ◌<◌, length};
 ghost use Rattle.rules.specs.Middle.{inserted, insert_at};
 ghost use Rattle.rules.specs.Outcome.{told, do_rule};
 ghost use Rattle.rules.specs.Places.{step_back};
-ghost use Rattle.rules.specs.Refusals.{most_slots};
-ghost use Rattle.rules.specs.Slots.{list_of, lay};
-ghost use Rattle.queue.specs.Answers.{rec_of, of_change};
+ghost use Rattle.rules.specs.Records.{held};
+ghost use Rattle.rules.specs.Slots.{lay};
+ghost use Rattle.queue.specs.Answers.{Fits, rec_of, of_change};
 
 use places::WrappedIndex;
-use queue::{Change, Checked, Deque, Refusal};
+use queue::{Change, Deque, Refusal};
 
 // Makes room at index by moving the elements from there on, and stores v.
-fn insert_later(slots: &mut [u32], head: WrappedIndex, len: usize, index: usize, v: u32)
-    requires { (head.0 < length slots.old) × (index ≤ len) × (len < length slots.old)
-        × (length slots.old ≤ most_slots) }
-    ensures { slots.new
-        ≡ lay slots.old head.0 (inserted (list_of slots.old head.0 len) index v) }
+fn insert_later(slots: &mut [u32], q: Deque, index: usize, v: u32)
+    requires { Fits (length slots.old) q × (index ≤ q.len) × (q.len < length slots.old) }
+    ensures { slots.new ≡ lay slots.old q.head.0 (inserted (held slots.old (rec_of q)) index v) }
 {
     // V in front of E: E and F move
     //
@@ -26,27 +24,17 @@ fn insert_later(slots: &mut [u32], head: WrappedIndex, len: usize, index: usize,
     //            H
     //
     let cap = slots.len();
-    let from = places::wrap_add(cap, head, index);
-    let to = places::wrap_add(cap, head, index + 1);
-    copies::wrap_copy(slots, from, to, len - index);
-    let i = from.as_index();
-    slots[i] = v;
+    let at = places::wrap_add(cap, q.head, index);
+    let behind = places::wrap_add(cap, q.head, index + 1);
+    copies::wrap_copy(slots, at, behind, q.len - index);
+    slots[at.as_index()] = v;
 }
 
-// Makes room at index by moving the elements before it to a head one step back, and stores v.
-fn insert_earlier(
-    slots: &mut [u32],
-    head: WrappedIndex,
-    back: WrappedIndex,
-    len: usize,
-    index: usize,
-    v: u32,
-)
-    requires head_in_bounds { (head.0 < length slots.old) × (index ≤ len) × (len < length slots.old)
-        × (length slots.old ≤ most_slots) }
-    requires back_value { back.0 ≡ step_back (length slots.old) head.0 1 }
-    ensures { slots.new
-        ≡ lay slots.old back.0 (inserted (list_of slots.old head.0 len) index v) }
+// Makes room at index by moving the elements before it to a head one step back, stores v, and answers that head.
+fn insert_earlier(slots: &mut [u32], q: Deque, index: usize, v: u32) -> WrappedIndex
+    requires { Fits (length slots.old) q × (index ≤ q.len) × (q.len < length slots.old) }
+    ensures head { result.0 ≡ step_back (length slots.old) q.head.0 1 }
+    ensures slots_after { slots.new ≡ lay slots.old result.0 (inserted (held slots.old (rec_of q)) index v) }
 {
     // V in front of C: A and B move
     //
@@ -57,40 +45,36 @@ fn insert_earlier(
     //          H
     //
     let cap = slots.len();
-    copies::wrap_copy(slots, head, back, index);
-    let to = places::wrap_add(cap, back, index);
-    let i = to.as_index();
-    slots[i] = v;
+    let head = places::wrap_sub(cap, q.head, 1);
+    copies::wrap_copy(slots, q.head, head, index);
+    let at = places::wrap_add(cap, head, index);
+    slots[at.as_index()] = v;
+    head
 }
 
 // Puts v at position index.
-pub fn insert(slots: &mut [u32], q: Deque, index: usize, v: u32) -> Change
-    ensures { (of_change result, slots.new) ≡ told (do_rule slots.old (rec_of q) (insert_at index v)) }
+pub fn insert(slots: &mut [u32], q: Deque, index: usize, v: u32) -> Result<Change<Deque>, Refusal>
+    ensures { (of_change q result, slots.new) ≡ told (do_rule slots.old (rec_of q) (insert_at index v)) }
 {
     let cap = slots.len();
-    if let Checked::Refused(refusal) = queue::check_change(cap, q) {
-        return queue::refused(refusal, q);
+    queue::check_change(cap, q)?;
+    if index > q.len {
+        return Err(Refusal::Position);
     }
-    let len = q.len;
-    if index > len {
-        return queue::refused(Refusal::Position, q);
+    if q.len == cap {
+        return Err(Refusal::Room);
     }
-    if len == cap {
-        return queue::refused(Refusal::Room, q);
-    }
-    let head = q.head;
-    let later = len - index;
+    let later = q.len - index;
     if later < index {
-        insert_later(slots, head, len, index, v);
-        return Change::Done {
-            queue: queue::stepped(q, head, len + 1),
+        insert_later(slots, q, index, v);
+        return Ok(Change {
+            after: queue::stepped(q, q.head, q.len + 1),
             moved: later,
-        };
+        });
     }
-    let back = places::wrap_sub(cap, head, 1);
-    insert_earlier(slots, head, back, len, index, v);
-    Change::Done {
-        queue: queue::stepped(q, back, len + 1),
+    let head = insert_earlier(slots, q, index, v);
+    Ok(Change {
+        after: queue::stepped(q, head, q.len + 1),
         moved: index,
-    }
+    })
 }

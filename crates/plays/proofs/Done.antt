@@ -5,8 +5,6 @@ use mathlib.Core.Path.{◌≡◌, refl, sym, ◌∙◌, ap, subst}
 use Prim.Native.Nat.{ℕ, ◌+◌, ◌-◌, ◌≤◌, ◌<◌}
 use native.Mathlib.Omega.{arith}
 use borrow.Author.Tests.{lt-ltb, le-ltb}
-use Rattle.journals.specs.Records.{of_record}
-use Rattle.journals.specs.declared.records.Record.{Record}
 use Rattle.lines.proofs.Puts.{puts_none, puts-append, puts_as}
 use Rattle.lines.specs.Puts.{Puts}
 use Rattle.plays.proofs.Parts.{same-part, or_false, or_true, then_assoc}
@@ -15,7 +13,7 @@ use Rattle.rules.specs.WholeReplay.{Stage, Play, Part, ◌then◌, stay, break_o
 use Rattle.plays.specs.Pieces.{begin_last, do_got, next, step}
 use Rattle.queue.specs.Answers.{rec_of}
 use Rattle.rules.specs.Choices.{whether}
-use Rattle.rules.specs.Journals.{Entry, do_entry, record_at, cut, ended}
+use Rattle.rules.specs.Journals.{Got, Entry, do_entry, record_at, cut, ended}
 use Rattle.rules.specs.Outcome.{Answer, told}
 use Rattle.rules.specs.Replays.{answer_line, broken_line, rec_or}
 use Rattle.plays.specs.declared.playing.Stage.{Stage as CodeStage}
@@ -167,9 +165,9 @@ plays_one y e n = (refl, refl)
 -- ---- which step it is
 
 -- by what the code's record says of a position
-pub at_got : (last : Bool) (s : List ℕ) (p : ℕ) (y : Play) (x r : Record) → x ≡ r → of_record x ≡ record_at s p
-    → do_got last p y (of_record r) ≡ do_got last p y (record_at s p)
-at_got last s p y x r e h = ap (do_got last p y) (sym (ap of_record e) ∙ h)
+pub at_got : (last : Bool) (s : List ℕ) (p : ℕ) (y : Play) (g : Got) → g ≡ record_at s p
+    → do_got last p y g ≡ do_got last p y (record_at s p)
+at_got last s p y g e = ap (do_got last p y) e
 
 -- a record cut short, and the end of the bytes: the last line is begun, or more bytes are waited for
 module _ (p : ℕ) (y : Play) where

@@ -5,9 +5,13 @@ use mathlib.Core.Path.{◌≡◌, refl, sym, ◌∙◌, ap, subst}
 use Prim.Native.Nat.{ℕ, zero, suc, ◌+◌, ◌≤◌, ◌<◌, suc-le-suc, zero-le}
 use native.Mathlib.Omega.{arith}
 use lib.ListN.{length, get_elem?}
-use Rattle.elements.specs.Answers.{of_found}
-use Rattle.elements.specs.declared.answers.Found.{Found}
-use Rattle.elements.specs.declared.answers.Found.TheVariants.{Number, Nothing, Refused}
+use Rattle.std.specs.Prelude.{Result, Ok, Err}
+use Rattle.std.specs.Prelude as code
+use Rattle.std.specs.Option.{option_flatten}
+use Rattle.std.specs.Result.{result_ok}
+use Rattle.elements.specs.Answers.{given}
+use Rattle.queue.specs.Looks.{look_of}
+use Rattle.queue.specs.declared.refusals.Refusal.{Refusal}
 use Rattle.plays.specs.Pieces.{word_of}
 use Rattle.rules.specs.WholeReplay.{Play, ending, in_elements, over, elements}
 use Rattle.rules.proofs.Slots.{length_list_of}
@@ -17,8 +21,12 @@ use Rattle.rules.specs.Records.{Rec, held}
 use Rattle.rules.specs.Refusals.{on_queue}
 use Rattle.rules.specs.Replays.{decimal, newline, space}
 
+-- what the code's look answers
+abbrev pub Found : Type 0
+Found = Result (code.Option ℕ) Refusal
+
 -- what a look found: nothing where it was refused
-abbrev found : Look (Option ℕ) → Option ℕ
+abbrev pub found : Look (Option ℕ) → Option ℕ
 found (sees o) = o
 found (refuses n) = none
 
@@ -27,8 +35,8 @@ unfolding looked unless
 looks_in zero l i = refl
 looks_in (suc n) l i = refl
 
-module _ (b : List ℕ) (r : Rec) (i : ℕ) (f : Found) (h : of_found f ≡ look_at b r (at_position i)) where
-  in_elements_lem : get_elem? (elements b r) i ≡ found (of_found f)
+module _ (b : List ℕ) (r : Rec) (i : ℕ) (f : Found) (h : look_of given f ≡ look_at b r (at_position i)) where
+  in_elements_lem : get_elem? (elements b r) i ≡ found (look_of given f)
   unfolding elements look_at
   in_elements_lem = looks_in (on_queue (length b) r 0) (held b r) i ∙ ap found (sym h)
 
@@ -47,11 +55,11 @@ unfolding unless held
 few_elements zero b r = omega (arith, length_list_of b r.head r.len)
 few_elements (suc n) b r = omega arith
 
--- what was not found as a number was not found at all
-missed : (f : Found) → ((v : ℕ) → f ≡ Number v → ⊥) → found (of_found f) ≡ none
-missed (Number v) k = absurd (k v refl)
-missed Nothing k = refl
-missed (Refused x) k = refl
+-- the element of such an answer, if there is one: `.ok().flatten()`
+pub found_given : (f : Found) (o : code.Option ℕ) → o ≡ option_flatten (result_ok f)
+    → found (look_of given f) ≡ given o
+found_given (Ok o') o e = ap given (sym e)
+found_given (Err x) o e = ap given (sym e)
 
 -- a word of the last line uses no bytes and plays no record
 pub word_uses : (y : Play) (i : ℕ) (o : Option ℕ) → ((word_of y i o).used ≡ 0) × ((word_of y i o).records ≡ 0)
@@ -59,25 +67,24 @@ unfolding word_of ending
 word_uses y i none = (refl, refl)
 word_uses y i (some v) = (refl, refl)
 
-module _ (y : Play) (i : ℕ) (f : Found) (h : of_found f ≡ look_at y.slots y.queue (at_position i)) where
-  at_found : word_of y i (found (of_found f)) ≡ word_of y i (get_elem? (elements y.slots y.queue) i)
+module _ (y : Play) (i : ℕ) (f : Found) (h : look_of given f ≡ look_at y.slots y.queue (at_position i)) where
+  at_found : word_of y i (found (look_of given f)) ≡ word_of y i (get_elem? (elements y.slots y.queue) i)
   at_found = ap (word_of y i) (sym (in_elements_lem y.slots y.queue i f h))
 
-  pub at_element : (v k : ℕ) → k ≡ i + 1 → f ≡ Number v → ending y (in_elements k) (space ∷ decimal v)
+  pub at_element : (v k : ℕ) → k ≡ i + 1 → found (look_of given f) ≡ some v → ending y (in_elements k) (space ∷ decimal v)
       ≡ word_of y i (get_elem? (elements y.slots y.queue) i)
   unfolding word_of
   at_element v k at-k is =
-      ap (λ (j : ℕ). ending y (in_elements j) (space ∷ decimal v)) at-k
-      ∙ ap (λ (g : Found). word_of y i (found (of_found g))) (sym is) ∙ at_found
+      ap (λ (j : ℕ). ending y (in_elements j) (space ∷ decimal v)) at-k ∙ ap (word_of y i) (sym is) ∙ at_found
 
-  pub at_newline : ((v : ℕ) → f ≡ Number v → ⊥) → ending y over (newline ∷ [])
+  pub at_newline : found (look_of given f) ≡ none → ending y over (newline ∷ [])
       ≡ word_of y i (get_elem? (elements y.slots y.queue) i)
   unfolding word_of
-  at_newline k = ap (word_of y i) (sym (missed f k)) ∙ at_found
+  at_newline nothing = ap (word_of y i) (sym nothing) ∙ at_found
 
-  pub element-low : (v : ℕ) → f ≡ Number v → i < y.queue.len
+  pub element-low : (v : ℕ) → found (look_of given f) ≡ some v → i < y.queue.len
   unfolding elements
   element-low v is =
       let there = some_in (elements y.slots y.queue) i
-      (subst Some (sym (in_elements_lem y.slots y.queue i f h ∙ ap (λ (g : Found). found (of_found g)) is)) tt) in
+      (subst Some (sym (in_elements_lem y.slots y.queue i f h ∙ is)) tt) in
       omega (arith, there, few_elements (on_queue (length y.slots) y.queue 0) y.slots y.queue)

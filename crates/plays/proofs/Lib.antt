@@ -1,5 +1,6 @@
 -- What the functions' proofs cite, and the theorem that a journal's pieces do not show. Read from the top.
 pub mod Parts
+pub mod RecordBytes
 pub mod Records
 pub mod Elements
 pub mod Done

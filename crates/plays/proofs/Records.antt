@@ -9,7 +9,7 @@ use borrow.Author.Tests.{ne_eqb}
 use lib.Dec.{eqb, ltb, eqb→eq, nltb→le}
 use lib.ListN.{length, take, drop, get_or, length-append, length-drop, get_or-append}
 use lib.Seq.{take-append-le, drop-append-le, drop-drop, get_or-drop}
-use Rattle.journals.proofs.RecordBytes.{other_none, the_longest, wrong_length, wrong_version, wrong_operation, takes}
+use Rattle.plays.proofs.RecordBytes.{other_none, the_longest, wrong_length, wrong_version, wrong_operation, takes}
 use Rattle.rules.proofs.Choices.{by_test, by-test₂, cases, neqb→ne, is_true, is_false}
 use Rattle.rules.specs.Choices.{whether}
 use Rattle.rules.specs.Images.{big_endian, version}

@@ -4,7 +4,7 @@ use mathlib.Core.Path.{◌≡◌, refl, sym, ◌∙◌, ap}
 use Prim.Native.Nat.{ℕ, zero, suc, ◌+◌, ◌-◌, ◌≤◌}
 use native.Mathlib.Omega.{arith}
 use lib.ListN.{length, drop}
-use Rattle.journals.proofs.RecordBytes.{at_end}
+use Rattle.plays.proofs.RecordBytes.{at_end}
 use Rattle.plays.proofs.Records.{Ends, record_ends, later, record_later}
 use Rattle.rules.specs.Journals.{Got, taken, broken, cut, ended, record_at}
 use Rattle.rules.specs.WholeReplay.{Play, Part, ◌then◌, break_off, play_record, last_line, replayed}

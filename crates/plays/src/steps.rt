@@ -9,36 +9,27 @@ ghost use Rattle.queue.specs.Answers.{rec_of};
 ghost use Rattle.rules.specs.Journals.{record_at};
 
 use crate::playing::{Advanced, Playing, Stage};
-use elements::Found;
-use journals::{Operation, Record};
+use journals::{Fault, Record};
 
-// Performs an operation, whose record ends before `next`, and puts its line.
-fn play_record(
-    slots: &mut [u32],
-    before: Advanced,
-    operation: Operation,
-    next: usize,
-    out: &mut [u8],
-) -> Advanced
-    requires { (before.written + 105 ≤ length out.old) × (before.used ≤ next) × (before.records < next) }
+// Performs the operation of a record, and puts its line.
+fn play_record(slots: &mut [u32], before: Advanced, taken: Record, out: &mut [u8]) -> Advanced
+    requires { (before.written + 105 ≤ length out.old) × (before.used ≤ taken.next) × (before.records < taken.next) }
     ensures { Does slots.old slots.new out.old out.new before result
-        (play_record (play_of slots.old before.playing) (entry_for operation) (next - before.used))
+        (play_record (play_of slots.old before.playing) (entry_for taken.operation) (taken.next - before.used))
         × (result.written ≤ before.written + 105) }
 {
-    let playing = before.playing;
-    let queue = playing.queue;
-    let done = journals::perform(slots, queue, operation);
-    let written = lines::answer_line(out, before.written, queue, operation, done);
-    let state = done.state;
+    let queue = before.playing.queue;
+    let done = taken.operation.perform(slots, queue);
+    let written = lines::answer_line(out, before.written, queue, taken.operation, done);
     Advanced {
         playing: Playing {
-            queue: answers::record_or(queue, state),
+            queue: done.record_or(queue),
             stage: Stage::Records,
         },
-        used: next,
+        used: taken.next,
         records: before.records + 1,
-        broken: before.broken,
         written,
+        ..before
     }
 }
 
@@ -48,17 +39,13 @@ fn begin_last(slots: &[u32], before: Advanced, out: &mut [u8]) -> Advanced
     ensures { Does slots.now slots.now out.old out.new before result
         (begin_last (play_of slots.now before.playing)) × (result.written ≤ before.written + 3) }
 {
-    let playing = before.playing;
-    let queue = playing.queue;
     Advanced {
         playing: Playing {
-            queue,
+            queue: before.playing.queue,
             stage: Stage::Elements(0),
         },
-        used: before.used,
-        records: before.records,
-        broken: before.broken,
         written: lines::put_end(out, before.written),
+        ..before
     }
 }
 
@@ -69,14 +56,10 @@ fn break_off(slots: &[u32], before: Advanced, out: &mut [u8]) -> Advanced
         (break_off (play_of slots.now before.playing)
         then begin_last (play_of slots.now before.playing)) × (result.written ≤ before.written + 105) }
 {
-    let playing = before.playing;
-    let queue = playing.queue;
     let broken = Advanced {
-        playing,
-        used: before.used,
-        records: before.records,
         broken: true,
-        written: lines::broken_line(out, before.written, queue),
+        written: lines::broken_line(out, before.written, before.playing.queue),
+        ..before
     };
     begin_last(slots, broken, out)
 }
@@ -97,20 +80,11 @@ fn next_record(
         × Within (length bytes.now) (length out.old) result }
 {
     match journals::record_at(bytes, before.used) {
-        Record::Taken { operation, next } => play_record(slots, before, operation, next, out),
-        Record::Broken => break_off(slots, before, out),
-        Record::Cut => {
-            if last {
-                return break_off(slots, before, out);
-            }
-            before
-        }
-        Record::End => {
-            if last {
-                return begin_last(slots, before, out);
-            }
-            before
-        }
+        Ok(Some(taken)) => play_record(slots, before, taken, out),
+        Ok(None) if last => begin_last(slots, before, out),
+        Err(Fault::Broken) => break_off(slots, before, out),
+        Err(Fault::Cut) if last => break_off(slots, before, out),
+        Ok(None) | Err(Fault::Cut) => before,
     }
 }
 
@@ -122,29 +96,24 @@ fn next_element(slots: &[u32], before: Advanced, i: usize, out: &mut [u8]) -> Ad
         (get_elem? (elements slots.now (rec_of before.playing.queue)) i))
         × (result.written ≤ before.written + 105) }
 {
-    let playing = before.playing;
-    let queue = playing.queue;
-    if let Found::Number(number) = ends::get(slots, queue, i) {
-        return Advanced {
+    let queue = before.playing.queue;
+    match ends::get(slots, queue, i).ok().flatten() {
+        Some(number) => Advanced {
             playing: Playing {
                 queue,
                 stage: Stage::Elements(i + 1),
             },
-            used: before.used,
-            records: before.records,
-            broken: before.broken,
             written: lines::put_word(out, before.written, number as usize),
-        };
-    }
-    Advanced {
-        playing: Playing {
-            queue,
-            stage: Stage::Over,
+            ..before
         },
-        used: before.used,
-        records: before.records,
-        broken: before.broken,
-        written: lines::put_newline(out, before.written),
+        None => Advanced {
+            playing: Playing {
+                queue,
+                stage: Stage::Over,
+            },
+            written: lines::put_newline(out, before.written),
+            ..before
+        },
     }
 }
 
@@ -166,9 +135,7 @@ pub fn step(
     if out.len() - before.written < 105 {
         return before;
     }
-    let playing = before.playing;
-    let stage = playing.stage;
-    match stage {
+    match before.playing.stage {
         Stage::Records => next_record(slots, before, bytes, last, out),
         Stage::Elements(i) => next_element(slots, before, i, out),
         Stage::Over => before,

@@ -8,9 +8,8 @@ use native.Mathlib.Omega.{arith}
 use borrow.Author.Tests.{lt-leb}
 use lib.Dec.{T, leb, leb→le, nleb→lt}
 use lib.ListN.{length}
-use Rattle.queue.proofs.Checks.{failed_number}
 use Rattle.queue.proofs.Numbers.{some_number}
-use Rattle.queue.specs.Answers.{number_of, number_in}
+use Rattle.queue.specs.Answers.{number_of}
 use Rattle.rules.proofs.Drains.{GoodDrain, drain_true, drain_ok, good_drain_lem}
 use Rattle.rules.proofs.Refusals.{all_good, head_ok, record_true, slots_asks}
 use Rattle.rules.proofs.Choices.{unless-stop}
@@ -21,8 +20,6 @@ use Rattle.rules.specs.Refusals.{good_head, most_slots, on_queue, on_slots}
 use Rattle.rules.specs.Choices.{ask, unless}
 use Rattle.queue.specs.declared.refusals.Refusal.{Refusal}
 use Rattle.queue.specs.declared.refusals.Refusal.TheVariants.{Slots, Record}
-use Rattle.queue.specs.declared.refusals.Checked.{Checked}
-use Rattle.queue.specs.declared.refusals.Checked.TheVariants.{Refused as Failed}
 
 module _ (c : ℕ) (d : Drain) where
   -- a test that passes where the record is good, and only there, is the test of the record
@@ -74,12 +71,9 @@ module _ (c : ℕ) (d : Drain) where
     pub remains_in : (i : ℕ) → i < d.idx + d.remaining → i < r.len
     remains_in i lt = let g = (drain_ok c d z).1 in rw whole (omega arith)
 
--- ---- what a call knows of their answer t
-
-module _ (b : List ℕ) (d : Drain) (t : Checked) (asked : number_in t ≡ on_drain (length b) d) where
-  -- it is refused as they say: the same record, moved 0, and nothing is written; o is what the call would do
-  pub drain_refused : (o : Outcome) (x : Refusal) → t ≡ Failed x
-      → (record { refused = number_of x; moved = 0; state = draining d; handed = none }, b)
-      ≡ told (unless (on_drain (length b) d) o (unchanged b (draining d) (on_drain (length b) d)))
-  unfolding unchanged
-  drain_refused o x f = rw (failed_number t x _ asked f, unless-stop (number_of x) o _ (some_number x))
+-- they refuse: the same record, moved 0, and nothing is written; o is what the call would do
+pub drain_refused : (b : List ℕ) (d : Drain) (o : Outcome) (x : Refusal) → number_of x ≡ on_drain (length b) d
+    → (record { refused = number_of x; moved = 0; state = draining d; handed = none }, b)
+    ≡ told (unless (on_drain (length b) d) o (unchanged b (draining d) (on_drain (length b) d)))
+unfolding unchanged
+drain_refused b d o x e = rw (sym e, unless-stop (number_of x) o _ (some_number x))

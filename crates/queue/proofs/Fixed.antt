@@ -1,18 +1,20 @@
 -- ONE POSSIBLE ANSWER. A contract equates what is said of an answer, document 01's number and values for it, with what
 -- the rules say. Here and in the files below it is proved that an answer is fixed by what is said of it: two of which
 -- the same is said are one. So each contract leaves one possible answer, a refused one too. What is fixed where:
---   queue/proofs/Fixed: Refusal, Checked; Deque, Drain, State, Walk, Span; Change, Made, Opened, Closed, Joined, Split
---   queue/proofs/FixedLooks: Ranges, Begun, Truth, Ordering, Searched, Point, Written
---   elements/proofs/Fixed: Given, Handed, Drawn, Found, Stepped
+--   queue/proofs/Fixed: Refusal; Deque, Drain, State, Walk, Span; what the tests answer, and each call that changes a
+--     queue and hands nothing over
+--   queue/proofs/FixedLooks: what a look answers, with Runs, an order, a place in a search
+--   elements/proofs/Fixed: Handed, Step, an element or none
 --   walks/proofs/Fixed: Iterator, IteratorStep
---   answers/proofs/Fixed: Sight, Looked, Answer, StepAnswer
+--   answers/proofs/Fixed: Sight, Answer, StepAnswer
 --   journals/proofs/Fixed: Operation, Record
---   replies/proofs/Fixed: Reply, FoundReply, TruthReply, OrderReply, SearchReply, CountReply, Asked
+--   replies/proofs/Fixed: Reply, FoundReply, TruthReply, OrderReply, SearchReply, CountReply, a test by its kind
 -- Assumes nothing.
 use mathlib.Core.Option.{Option, none, some}
 use mathlib.Core.Path.{◌≡◌, refl, sym, ◌∙◌, ap}
 use Prim.Native.Nat.{ℕ}
 use lib.Dec.{eqb}
+use Rattle.std.specs.Prelude.{Result, Ok, Err}
 use Rattle.rules.proofs.Choices.{unless-stop}
 use Rattle.rules.specs.Choices.{whether, unless}
 use Rattle.rules.specs.Drains.{Drain, as_opened, opened}
@@ -35,20 +37,8 @@ use Rattle.queue.specs.declared.records.Walk.{Walk}
 use Rattle.queue.specs.declared.records.Span.{Span}
 use Rattle.queue.specs.declared.refusals.Refusal.{Refusal}
 use Rattle.queue.specs.declared.refusals.Refusal.TheVariants.{Slots, Record, Position, Room, Image, Open}
-use Rattle.queue.specs.declared.refusals.Checked.{Checked}
-use Rattle.queue.specs.declared.refusals.Checked.TheVariants as checked
 use Rattle.queue.specs.declared.answers.Change.{Change}
-use Rattle.queue.specs.declared.answers.Change.TheVariants as change
-use Rattle.queue.specs.declared.answers.Made.{Made}
-use Rattle.queue.specs.declared.answers.Made.TheVariants as made
-use Rattle.queue.specs.declared.answers.Opened.{Opened}
-use Rattle.queue.specs.declared.answers.Opened.TheVariants as opens
-use Rattle.queue.specs.declared.answers.Closed.{Closed}
-use Rattle.queue.specs.declared.answers.Closed.TheVariants as closed
-use Rattle.queue.specs.declared.answers.Joined.{Joined}
-use Rattle.queue.specs.declared.answers.Joined.TheVariants as joined
-use Rattle.queue.specs.declared.answers.Split.{Split}
-use Rattle.queue.specs.declared.answers.Split.TheVariants as split
+use Rattle.queue.specs.declared.answers.Pair.{Pair}
 
 -- what has a way back is fixed by what is said of it
 pub fixed : {A B : Type 0} (say : A → B) (back : B → A) → ((a : A) → back (say a) ≡ a)
@@ -79,24 +69,24 @@ named_back Room = refl
 named_back Image = refl
 named_back Open = refl
 
--- the answer for a refusal number: a where it is 0, else f of the refusal
-abbrev pub by_number : {A : Type 0} → ℕ → A → (Refusal → A) → A
-by_number n a f = unless n a (f (named n))
+-- the answer for a refusal number: a where it is 0, else the refusal
+abbrev pub by_number : {A : Type 0} → ℕ → A → Result A Refusal
+by_number n a = unless n (Ok a) (Err (named n))
 
 -- of a refused answer it leads back
-pub refused-back : {A : Type 0} (x : Refusal) (a : A) (f : Refusal → A) → by_number (number_of x) a f ≡ f x
-refused-back x a f = unless-stop (number_of x) a (f (named (number_of x))) (some_number x) ∙ ap f (named_back x)
+pub refused-back : {A : Type 0} (x : Refusal) (a : A) → by_number (number_of x) a ≡ Err x
+refused-back x a = unless-stop (number_of x) (Ok a) (Err (named (number_of x))) (some_number x) ∙ ap Err (named_back x)
 
 -- what the tests answer
-checked_from : ℕ → Checked
-checked_from n = by_number n checked.Good checked.Refused
+checked_from : ℕ → Result Unit Refusal
+checked_from n = by_number n tt
 
-checked_back : (a : Checked) → checked_from (number_in a) ≡ a
+checked_back : (a : Result Unit Refusal) → checked_from (number_in a) ≡ a
 unfolding checked_from unless
-checked_back checked.Good = refl
-checked_back (checked.Refused x) = refused-back x _ checked.Refused
+checked_back (Ok tt) = refl
+checked_back (Err x) = refused-back x _
 
-pub one_checked : (a b : Checked) → number_in a ≡ number_in b → a ≡ b
+pub one_checked : (a b : Result Unit Refusal) → number_in a ≡ number_in b → a ≡ b
 one_checked = fixed number_in checked_from checked_back
 
 -- ---- the records: the way back from those that the rules speak of
@@ -157,81 +147,66 @@ abbrev or_new : Option Rec → Deque
 or_new none = deque_from (new_rec 0)
 or_new (some r) = deque_from r
 
--- ---- the answers: for each the way back, and that it leads back
+-- ---- the answers: for each the way back, and that it leads back; q, d, o are what the call was given
 
-change_from : Answer → Change
-change_from a =
-    by_number a.refused (change.Done (its_deque a.state) a.moved)
-    (λ x. change.Refused x (its_deque a.state) a.moved)
+change_from : Answer → Result (Change Deque) Refusal
+change_from a = by_number a.refused (record { after = its_deque a.state; moved = a.moved })
 
-change_back : (a : Change) → change_from (of_change a) ≡ a
+change_back : (q : Deque) (a : Result (Change Deque) Refusal) → change_from (of_change q a) ≡ a
 unfolding change_from unless
-change_back (change.Done q m) = refl
-change_back (change.Refused x q m) = refused-back x _ (λ y. change.Refused y q m)
+change_back q (Ok c) = refl
+change_back q (Err x) = refused-back x _
 
-pub one_change : (a b : Change) → of_change a ≡ of_change b → a ≡ b
-one_change = fixed of_change change_from change_back
+pub one_change : (q : Deque) (a b : Result (Change Deque) Refusal) → of_change q a ≡ of_change q b → a ≡ b
+one_change q = fixed (of_change q) change_from (change_back q)
 
-made_from : MakeAnswer → Made
-made_from a = by_number a.refused (made.Done (or_new a.made) a.moved) (λ x. made.Refused x a.moved)
+made_from : MakeAnswer → Result (Change Deque) Refusal
+made_from a = by_number a.refused (record { after = or_new a.made; moved = a.moved })
 
-made-back : (a : Made) → made_from (of_made a) ≡ a
+made-back : (a : Result (Change Deque) Refusal) → made_from (of_made a) ≡ a
 unfolding made_from unless
-made-back (made.Done q m) = refl
-made-back (made.Refused x m) = refused-back x _ (λ y. made.Refused y m)
+made-back (Ok c) = refl
+made-back (Err x) = refused-back x _
 
-pub one_made : (a b : Made) → of_made a ≡ of_made b → a ≡ b
+pub one_made : (a b : Result (Change Deque) Refusal) → of_made a ≡ of_made b → a ≡ b
 one_made = fixed of_made made_from made-back
 
-opened_from : Answer → Opened
-opened_from a =
-    by_number a.refused (opens.Done (its_drain a.state) a.moved)
-    (λ x. opens.Refused x (its_deque a.state) a.moved)
+opened_from : Answer → Result (Change Draining) Refusal
+opened_from a = by_number a.refused (record { after = its_drain a.state; moved = a.moved })
 
-opened-back : (a : Opened) → opened_from (of_opened a) ≡ a
+opened-back : (q : Deque) (a : Result (Change Draining) Refusal) → opened_from (of_opened q a) ≡ a
 unfolding opened_from unless
-opened-back (opens.Done d m) = refl
-opened-back (opens.Refused x q m) = refused-back x _ (λ y. opens.Refused y q m)
+opened-back q (Ok c) = refl
+opened-back q (Err x) = refused-back x _
 
-pub one_opened : (a b : Opened) → of_opened a ≡ of_opened b → a ≡ b
-one_opened = fixed of_opened opened_from opened-back
+pub one_opened : (q : Deque) (a b : Result (Change Draining) Refusal) → of_opened q a ≡ of_opened q b → a ≡ b
+one_opened q = fixed (of_opened q) opened_from (opened-back q)
 
-closed_from : Answer → Closed
-closed_from a =
-    by_number a.refused (closed.Done (its_deque a.state) a.moved)
-    (λ x. closed.Refused x (its_drain a.state) a.moved)
+closed_back : (d : Draining) (a : Result (Change Deque) Refusal) → change_from (of_closed d a) ≡ a
+unfolding change_from unless
+closed_back d (Ok c) = refl
+closed_back d (Err x) = refused-back x _
 
-closed_back : (a : Closed) → closed_from (of_closed a) ≡ a
-unfolding closed_from unless
-closed_back (closed.Done q m) = refl
-closed_back (closed.Refused x d m) = refused-back x _ (λ y. closed.Refused y d m)
+pub one_closed : (d : Draining) (a b : Result (Change Deque) Refusal) → of_closed d a ≡ of_closed d b → a ≡ b
+one_closed d = fixed (of_closed d) change_from (closed_back d)
 
-pub one_closed : (a b : Closed) → of_closed a ≡ of_closed b → a ≡ b
-one_closed = fixed of_closed closed_from closed_back
+paired_from : PairAnswer → Result (Change Pair) Refusal
+paired_from a =
+    by_number a.refused
+    (record { after = record { queue = deque_from a.rec; other = or_new a.other }; moved = a.moved })
 
-joined_from : PairAnswer → Joined
-joined_from a =
-    let q = deque_from a.rec in
-    let o = or_new a.other in
-    by_number a.refused (joined.Done q o a.moved) (λ x. joined.Refused x q o a.moved)
+joined_back : (q o : Deque) (a : Result (Change Pair) Refusal) → paired_from (of_joined q o a) ≡ a
+unfolding paired_from unless
+joined_back q o (Ok c) = refl
+joined_back q o (Err x) = refused-back x _
 
-joined_back : (a : Joined) → joined_from (of_joined a) ≡ a
-unfolding joined_from unless
-joined_back (joined.Done q o m) = refl
-joined_back (joined.Refused x q o m) = refused-back x _ (λ y. joined.Refused y q o m)
+pub one_joined : (q o : Deque) (a b : Result (Change Pair) Refusal) → of_joined q o a ≡ of_joined q o b → a ≡ b
+one_joined q o = fixed (of_joined q o) paired_from (joined_back q o)
 
-pub one_joined : (a b : Joined) → of_joined a ≡ of_joined b → a ≡ b
-one_joined = fixed of_joined joined_from joined_back
+split_back : (q : Deque) (a : Result (Change Pair) Refusal) → paired_from (of_split q a) ≡ a
+unfolding paired_from unless
+split_back q (Ok c) = refl
+split_back q (Err x) = refused-back x _
 
-split_from : PairAnswer → Split
-split_from a =
-    let q = deque_from a.rec in
-    by_number a.refused (split.Done q (or_new a.other) a.moved) (λ x. split.Refused x q a.moved)
-
-split_back : (a : Split) → split_from (of_split a) ≡ a
-unfolding split_from unless
-split_back (split.Done q o m) = refl
-split_back (split.Refused x q m) = refused-back x _ (λ y. split.Refused y q m)
-
-pub one_split : (a b : Split) → of_split a ≡ of_split b → a ≡ b
-one_split = fixed of_split split_from split_back
+pub one_split : (q : Deque) (a b : Result (Change Pair) Refusal) → of_split q a ≡ of_split q b → a ≡ b
+one_split q = fixed (of_split q) paired_from (split_back q)

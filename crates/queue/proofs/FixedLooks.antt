@@ -1,120 +1,64 @@
--- The answers of calls that only look, of which no element is told: each is fixed by what is said of it (see `Fixed`).
+-- What the calls that only look answer, of which no element is told: each is fixed by what is said of it (see `Fixed`).
 -- Assumes nothing.
-use mathlib.Core.Bool.{Bool}
 use mathlib.Core.Path.{◌≡◌, refl, ap}
 use Prim.Native.Nat.{ℕ}
+use Rattle.std.specs.Prelude.{Result, Ok, Err}
+use Rattle.std.specs.declared.cmp.Ordering.{Ordering}
+use Rattle.std.specs.declared.cmp.Ordering.TheVariants.{Less, Equal, Greater}
 use Rattle.rules.specs.Looks.{Look, sees, refuses, Order, less, alike, greater}
 use Rattle.rules.specs.Runs as rules
 use Rattle.rules.specs.Search.{Spot, found_at, place_at}
-use Rattle.rules.specs.Walks.{Walk as RuledWalk}
-use Rattle.queue.proofs.Fixed.{fixed, named, named_back, walk_from, span_from}
-use Rattle.queue.specs.Looks.{of_ranges, of_begun, of_truth, of_ordering, of_searched, of_point, of_written}
+use Rattle.queue.proofs.Fixed.{fixed, named, named_back, span_from}
+use Rattle.queue.specs.Looks.{look_of, runs_of, order_of, spot_of}
 use Rattle.queue.specs.declared.refusals.Refusal.{Refusal}
-use Rattle.queue.specs.declared.answers.Ranges.{Ranges}
-use Rattle.queue.specs.declared.answers.Ranges.TheVariants as ranges
-use Rattle.queue.specs.declared.answers.Begun.{Begun}
-use Rattle.queue.specs.declared.answers.Begun.TheVariants as begun
-use Rattle.queue.specs.declared.answers.Truth.{Truth}
-use Rattle.queue.specs.declared.answers.Truth.TheVariants as truth
-use Rattle.queue.specs.declared.answers.Ordering.{Ordering}
-use Rattle.queue.specs.declared.answers.Ordering.TheVariants as ordering
-use Rattle.queue.specs.declared.answers.Searched.{Searched}
-use Rattle.queue.specs.declared.answers.Searched.TheVariants as searched
-use Rattle.queue.specs.declared.answers.Point.{Point}
-use Rattle.queue.specs.declared.answers.Point.TheVariants as point
-use Rattle.queue.specs.declared.answers.Written.{Written}
-use Rattle.queue.specs.declared.answers.Written.TheVariants as written
+use Rattle.queue.specs.declared.answers.Runs.{Runs}
 
--- the answer for a look: f of what was seen, or g of the refusal
-abbrev pub by_sight : {A B : Type 0} → (B → A) → (Refusal → A) → Look B → A
-by_sight f g (sees b) = f b
-by_sight f g (refuses n) = g (named n)
+-- ---- a look, where what it saw is fixed by what is said of that: f says it, and back leads back
 
-ranges_from : Look rules.TwoRuns → Ranges
-ranges_from = by_sight (λ t. ranges.Runs (span_from t.front) (span_from t.back)) ranges.Refused
+module _ {A B : Type 0} (f : A → B) (back : B → A) (leads : (a : A) → back (f a) ≡ a) where
+  abbrev pub look_from : Look B → Result A Refusal
+  look_from (sees b) = Ok (back b)
+  look_from (refuses n) = Err (named n)
 
-ranges-back : (a : Ranges) → ranges_from (of_ranges a) ≡ a
-unfolding ranges_from
-ranges-back (ranges.Runs f k) = refl
-ranges-back (ranges.Refused x) = ap ranges.Refused (named_back x)
+  look_back : (a : Result A Refusal) → look_from (look_of f a) ≡ a
+  look_back (Ok a) = ap Ok (leads a)
+  look_back (Err x) = ap Err (named_back x)
 
-pub one_ranges : (a b : Ranges) → of_ranges a ≡ of_ranges b → a ≡ b
-one_ranges = fixed of_ranges ranges_from ranges-back
+  pub one_look : (a b : Result A Refusal) → look_of f a ≡ look_of f b → a ≡ b
+  one_look = fixed (look_of f) look_from look_back
 
-begun_from : Look RuledWalk → Begun
-begun_from = by_sight (λ w. begun.Walk (walk_from w)) begun.Refused
+-- a truth, a position, a count
+pub one_seen : {A : Type 0} (a b : Result A Refusal) → look_of (λ (x : A). x) a ≡ look_of (λ x. x) b → a ≡ b
+one_seen = one_look (λ x. x) (λ x. x) (λ x. refl)
 
-begun_back : (a : Begun) → begun_from (of_begun a) ≡ a
-unfolding begun_from
-begun_back (begun.Walk w) = refl
-begun_back (begun.Refused x) = ap begun.Refused (named_back x)
+-- ---- what is looked at
 
-pub one_begun : (a b : Begun) → of_begun a ≡ of_begun b → a ≡ b
-one_begun = fixed of_begun begun_from begun_back
+abbrev pub runs_from : rules.TwoRuns → Runs
+runs_from t = record { front = span_from t.front; back = span_from t.back }
 
-truth_from : Look Bool → Truth
-truth_from = by_sight truth.Is truth.Refused
+pub one_runs : (a b : Result Runs Refusal) → look_of runs_of a ≡ look_of runs_of b → a ≡ b
+one_runs = one_look runs_of runs_from (λ r. refl)
 
-truth-back : (a : Truth) → truth_from (of_truth a) ≡ a
-unfolding truth_from
-truth-back (truth.Is t) = refl
-truth-back (truth.Refused x) = ap truth.Refused (named_back x)
+abbrev pub order_from : Order → Ordering
+order_from less = Less
+order_from alike = Equal
+order_from greater = Greater
 
-pub one_truth : (a b : Truth) → of_truth a ≡ of_truth b → a ≡ b
-one_truth = fixed of_truth truth_from truth-back
+pub order_back : (o : Ordering) → order_from (order_of o) ≡ o
+order_back Less = refl
+order_back Equal = refl
+order_back Greater = refl
 
-order_from : Order → Ordering
-order_from less = ordering.Less
-order_from alike = ordering.Equal
-order_from greater = ordering.Greater
+pub one_order : (a b : Result Ordering Refusal) → look_of order_of a ≡ look_of order_of b → a ≡ b
+one_order = one_look order_of order_from order_back
 
-ordering_from : Look Order → Ordering
-ordering_from = by_sight order_from ordering.Refused
+abbrev pub spot_from : Spot → Result ℕ ℕ
+spot_from (found_at p) = Ok p
+spot_from (place_at p) = Err p
 
-ordering_back : (a : Ordering) → ordering_from (of_ordering a) ≡ a
-unfolding ordering_from order_from
-ordering_back ordering.Less = refl
-ordering_back ordering.Equal = refl
-ordering_back ordering.Greater = refl
-ordering_back (ordering.Refused x) = ap ordering.Refused (named_back x)
+pub spot_back : (s : Result ℕ ℕ) → spot_from (spot_of s) ≡ s
+spot_back (Ok p) = refl
+spot_back (Err p) = refl
 
-pub one_ordering : (a b : Ordering) → of_ordering a ≡ of_ordering b → a ≡ b
-one_ordering = fixed of_ordering ordering_from ordering_back
-
-spot_from : Spot → Searched
-spot_from (found_at p) = searched.Found p
-spot_from (place_at p) = searched.Place p
-
-searched_from : Look Spot → Searched
-searched_from = by_sight spot_from searched.Refused
-
-searched_back : (a : Searched) → searched_from (of_searched a) ≡ a
-unfolding searched_from spot_from
-searched_back (searched.Found p) = refl
-searched_back (searched.Place p) = refl
-searched_back (searched.Refused x) = ap searched.Refused (named_back x)
-
-pub one_searched : (a b : Searched) → of_searched a ≡ of_searched b → a ≡ b
-one_searched = fixed of_searched searched_from searched_back
-
-point_from : Look ℕ → Point
-point_from = by_sight point.At point.Refused
-
-point_back : (a : Point) → point_from (of_point a) ≡ a
-unfolding point_from
-point_back (point.At p) = refl
-point_back (point.Refused x) = ap point.Refused (named_back x)
-
-pub one_point : (a b : Point) → of_point a ≡ of_point b → a ≡ b
-one_point = fixed of_point point_from point_back
-
-written_from : Look ℕ → Written
-written_from = by_sight written.Bytes written.Refused
-
-written_back : (a : Written) → written_from (of_written a) ≡ a
-unfolding written_from
-written_back (written.Bytes n) = refl
-written_back (written.Refused x) = ap written.Refused (named_back x)
-
-pub one_written : (a b : Written) → of_written a ≡ of_written b → a ≡ b
-one_written = fixed of_written written_from written_back
+pub one_spot : (a b : Result (Result ℕ ℕ) Refusal) → look_of spot_of a ≡ look_of spot_of b → a ≡ b
+one_spot = one_look spot_of spot_from spot_back

@@ -1,17 +1,17 @@
 // The refusals, and the tests that calls ask first.
-ghost use Rattle.std.specs.Prelude.{true, ◌≡◌};
+ghost use Rattle.std.specs.Prelude.{true, ◌≡◌, ◌≤◌, OnOk};
 ghost use Rattle.rules.specs.Drains.{good_drain, on_drain};
 ghost use Rattle.rules.specs.Refusals.{good_head, good_rec, in_range, on_change, on_queue};
 ghost use Rattle.rules.specs.Walks.{on_walk};
-ghost use Rattle.queue.specs.Answers.{rec_of, number_in};
-ghost use Rattle.queue.specs.Drains.{drain_of};
+ghost use Rattle.queue.specs.Answers.{Fits, rec_of, number_of, number_in};
+ghost use Rattle.queue.specs.Drains.{DrainFits, drain_of};
 ghost use Rattle.queue.specs.Looks.{walk_of};
 
 use super::records::{Deque, Drain, Walk};
 
 // Why a call is refused, by its number from 1 on: too many slots, a record that is not good,
 // a position past the end, no room, bytes that are no image, a move into the queue that is open.
-#[derive(Clone, Copy)]
+#[derive(Clone, Copy, Debug, PartialEq, Eq)]
 pub enum Refusal {
     Slots,
     Record,
@@ -21,11 +21,21 @@ pub enum Refusal {
     Open,
 }
 
-// What tests say.
-#[derive(Clone, Copy)]
-pub enum Checked {
-    Good,
-    Refused(Refusal),
+impl Refusal {
+    // Its number.
+    #[tactic(auto, unfolding(crate::specs::Answers::number_of))]
+    pub fn number(self) -> u16
+        ensures { result ≡ number_of self }
+    {
+        match self {
+            Refusal::Slots => 1,
+            Refusal::Record => 2,
+            Refusal::Position => 3,
+            Refusal::Room => 4,
+            Refusal::Image => 5,
+            Refusal::Open => 6,
+        }
+    }
 }
 
 // Whether the record is good for so many slots.
@@ -48,44 +58,45 @@ fn good_record(cap: usize, q: Deque) -> bool
 }
 
 // The tests of slots and record, in their order.
-pub fn check(cap: usize, q: Deque) -> Checked
-    ensures { number_in result ≡ on_queue cap (rec_of q) 0 }
+pub fn check(cap: usize, q: Deque) -> Result<(), Refusal>
+    ensures number { number_in result ≡ on_queue cap (rec_of q) 0 }
+    ensures fits { OnOk result (Fits cap q) }
 {
     if cap <= rules::most_slots() {
         if good_record(cap, q) {
-            return Checked::Good;
+            return Ok(());
         }
-        return Checked::Refused(Refusal::Record);
+        return Err(Refusal::Record);
     }
-    Checked::Refused(Refusal::Slots)
+    Err(Refusal::Slots)
 }
 
 // The tests that a call of a kind that can change the queue asks first: slots, record, and whether a move into it is
 // open. One that only looks asks `check`. A marked queue is asked apart: where its mark was asked behind the record, the
 // compiler made one condition of both, and every push and pop was slower for it.
-pub fn check_change(cap: usize, q: Deque) -> Checked
-    ensures { number_in result ≡ on_change cap (rec_of q) 0 }
+pub fn check_change(cap: usize, q: Deque) -> Result<(), Refusal>
+    ensures number { number_in result ≡ on_change cap (rec_of q) 0 }
+    ensures fits { OnOk result (Fits cap q) }
 {
     if q.mark {
-        if let Checked::Refused(refusal) = check(cap, q) {
-            return Checked::Refused(refusal);
-        }
-        return Checked::Refused(Refusal::Open);
+        check(cap, q)?;
+        return Err(Refusal::Open);
     }
     check(cap, q)
 }
 
 // The tests of a range of the positions of `len` elements: it begins before it ends, and ends within them.
-pub fn check_range(len: usize, start: usize, end: usize) -> Checked
-    ensures { number_in result ≡ in_range len start end 0 }
+pub fn check_range(len: usize, start: usize, end: usize) -> Result<(), Refusal>
+    ensures number { number_in result ≡ in_range len start end 0 }
+    ensures within { OnOk result ((start ≤ end) × (end ≤ len)) }
 {
     if start > end {
-        return Checked::Refused(Refusal::Position);
+        return Err(Refusal::Position);
     }
     if end > len {
-        return Checked::Refused(Refusal::Position);
+        return Err(Refusal::Position);
     }
-    Checked::Good
+    Ok(())
 }
 
 // Whether the parts of the drain's queue fit so many slots and what remains lies in the drained
@@ -130,30 +141,30 @@ fn good_drain(cap: usize, d: Drain) -> bool
 }
 
 // The tests of slots and drain record, in their order.
-pub fn check_drain(cap: usize, d: Drain) -> Checked
-    ensures { number_in result ≡ on_drain cap (drain_of d) }
+pub fn check_drain(cap: usize, d: Drain) -> Result<(), Refusal>
+    ensures number { number_in result ≡ on_drain cap (drain_of d) }
+    ensures fits { OnOk result (DrainFits cap d) }
 {
     if cap > rules::most_slots() {
-        return Checked::Refused(Refusal::Slots);
+        return Err(Refusal::Slots);
     }
     if good_drain(cap, d) {
-        return Checked::Good;
+        return Ok(());
     }
-    Checked::Refused(Refusal::Record)
+    Err(Refusal::Record)
 }
 
 // The tests of slots, record and a walk's ends, in their order.
-pub fn check_walk(cap: usize, w: Walk) -> Checked
-    ensures { number_in result ≡ on_walk cap (walk_of w) }
+pub fn check_walk(cap: usize, w: Walk) -> Result<(), Refusal>
+    ensures number { number_in result ≡ on_walk cap (walk_of w) }
+    ensures fits { OnOk result (Fits cap w.queue × (w.low ≤ w.high) × (w.high ≤ w.queue.len)) }
 {
-    if let Checked::Refused(refusal) = check(cap, w.queue) {
-        return Checked::Refused(refusal);
-    }
+    check(cap, w.queue)?;
     if w.low > w.high {
-        return Checked::Refused(Refusal::Record);
+        return Err(Refusal::Record);
     }
     if w.high > w.queue.len {
-        return Checked::Refused(Refusal::Record);
+        return Err(Refusal::Record);
     }
-    Checked::Good
+    Ok(())
 }

@@ -2,18 +2,21 @@
 // of 16,000 slots, and writes what each gave; last, the elements that are left.
 #![tactic(auto)]
 
-use replays::{BUFFER, Broken, SLOTS};
+use replays::{BUFFER, Desk, SLOTS};
 
 fn main(rt: HostRuntime) {
     let mut slots = [0u32; SLOTS];
     let mut input = [0u8; BUFFER];
     let mut out = [0u8; BUFFER];
-    let replayed = replays::replay(rt, b"replay", &mut slots, &mut input, &mut out, u64::MAX);
-    let broken = replayed.broken;
-    if let Broken::At { record, byte } = broken {
-        streams::say(rt, b"replay: ");
-        replays::say_broken(rt, record, byte);
+    let mut desk = Desk {
+        program: "replay",
+        slots: &mut slots,
+        input: &mut input,
+        out: &mut out,
+    };
+    let replayed = desk.replay(rt, u64::MAX);
+    if let Some(place) = replayed.broken {
+        streams::say(rt, format_args!("replay: {place}\n"));
     }
-    let status = replayed.status;
-    streams::leave(rt, status);
+    streams::leave(rt, replayed.ended);
 }

@@ -1,44 +1,33 @@
 // The length before a journal.
-use streams::Got;
+use streams::{Failure, say};
 
-// What stands before the next journal: its length; nothing, since the input is at its end; a part of a length, at which
-// the input ends; or it could not be read, which was said.
-#[derive(Clone, Copy)]
-pub enum Header {
-    Length(u32),
-    End,
-    Cut,
-    Failed,
-}
-
-// What an input that ends behind so many bytes of a length leaves of it.
-fn ended(have: usize) -> Header {
-    if have == 0 {
-        return Header::End;
-    }
-    Header::Cut
-}
-
-// Reads the length of the next journal.
-pub fn next_header(rt: HostRuntime, program: &[u8]) -> Header {
+// Reads the length of the next journal; none where the input is at its end. An input that ends within a length is
+// broken, which is said, with the number of the journal.
+pub fn next_length(rt: HostRuntime, program: &str, number: u64) -> Result<Option<u32>, Failure> {
     let mut bytes = [0u8; 4];
-    let view: &mut [u8] = &mut bytes;
     let mut have: usize = 0;
     // Each read gives one byte at least, so four are enough.
-    for _ in 0..4usize {
+    for _ in 0..4 {
         if have == 4 {
             break;
         }
-        match streams::read_input(rt, program, &mut view[have..]) {
-            Got::Bytes(n) => {
-                have += n;
-            }
-            Got::End => return ended(have),
-            Got::Failed(_) => return Header::Failed,
+        let count = streams::read_input(rt, program, &mut bytes[have..])?;
+        if count == 0 {
+            break;
+        }
+        have += count;
+    }
+    match have {
+        0 => Ok(None),
+        4 => Ok(Some(u32::from_be_bytes(bytes))),
+        _ => {
+            say(
+                rt,
+                format_args!(
+                    "{program}: journal {number} is cut short: its length has fewer than 4 bytes\n"
+                ),
+            );
+            Err(Failure::Broken)
         }
     }
-    if have < 4 {
-        return Header::Cut;
-    }
-    Header::Length(images::four_at(view, 0))
 }

@@ -6,72 +6,38 @@
 mod headers; // headers.rt: the length before a journal
 mod journal; // journal.rt: one journal, and what is said of it
 
-use headers::{Header, next_header};
-use journal::{run_one, say_cut};
-use replays::{BUFFER, SLOTS};
-use streams::Status;
+use headers::next_length;
+use journal::run_one;
+use replays::{BUFFER, Desk, SLOTS};
+use streams::Failure;
 
-// Whether more journals may follow one with this status, and with which status of all so far.
-#[derive(Clone, Copy)]
-enum Going {
-    On(Status),
-    End(Status),
-}
-
-// Runs the next journal; a broken one does not keep the others from being run.
-fn run_next(
-    rt: HostRuntime,
-    program: &[u8],
-    slots: &mut [u32; SLOTS],
-    input: &mut [u8; BUFFER],
-    out: &mut [u8; BUFFER],
-    number: u64,
-    so_far: Status,
-) -> Going {
-    match next_header(rt, program) {
-        Header::Length(length) => {
-            match run_one(rt, program, slots, input, out, number, length) {
-                Status::Well => Going::On(so_far),
-                Status::Broken => Going::On(Status::Broken),
-                Status::ReadFailed => Going::End(Status::ReadFailed),
-                Status::WriteFailed => Going::End(Status::WriteFailed),
-            }
-        }
-        Header::End => Going::End(so_far),
-        Header::Cut => {
-            say_cut(rt, program, number);
-            streams::say(rt, b"its length has fewer than 4 bytes\n");
-            Going::End(Status::Broken)
-        }
-        Header::Failed => Going::End(Status::ReadFailed),
-    }
-}
-
-// Runs one journal after the other. A proved loop has to end, and
+// Runs one journal after the other; a broken one does not keep the others from being run. A proved loop has to end, and
 // nothing says that the input does: the journals are counted.
-fn run_all(
-    rt: HostRuntime,
-    program: &[u8],
-    slots: &mut [u32; SLOTS],
-    input: &mut [u8; BUFFER],
-    out: &mut [u8; BUFFER],
-) -> Status {
-    let mut status = Status::Well;
+fn run_all(rt: HostRuntime, desk: &mut Desk) -> Result<(), Failure> {
+    let mut so_far = Ok(());
     for number in 1..u64::MAX {
-        match run_next(rt, program, slots, input, out, number, status) {
-            Going::On(so_far) => {
-                status = so_far;
-            }
-            Going::End(last) => return last,
+        let Some(length) = next_length(rt, desk.program, number)? else {
+            break;
+        };
+        match run_one(rt, desk, number, length) {
+            Ok(()) => {}
+            Err(Failure::Broken) => so_far = Err(Failure::Broken),
+            failed => return failed,
         }
     }
-    status
+    so_far
 }
 
 fn main(rt: HostRuntime) {
     let mut slots = [0u32; SLOTS];
     let mut input = [0u8; BUFFER];
     let mut out = [0u8; BUFFER];
-    let status = run_all(rt, b"replay_many", &mut slots, &mut input, &mut out);
-    streams::leave(rt, status);
+    let mut desk = Desk {
+        program: "replay_many",
+        slots: &mut slots,
+        input: &mut input,
+        out: &mut out,
+    };
+    let ended = run_all(rt, &mut desk);
+    streams::leave(rt, ended);
 }

@@ -12,6 +12,5 @@ pub const SLOTS: usize = 16000;
 // The bytes of each of its buffers: many records, and many lines.
 pub const BUFFER: usize = 65536;
 
-pub use reading::{Passed, pass_over};
-pub use running::{Broken, Replayed, replay};
-pub use telling::say_broken;
+pub use running::{Desk, Replayed};
+pub use telling::Place;

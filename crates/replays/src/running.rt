@@ -1,256 +1,149 @@
 // A journal, from its first byte to its last line.
-ghost use Rattle.std.specs.Prelude.{◌≡◌, ◌+◌, ◌^◌, ◌<◌, ◌≤◌, length};
+ghost use Rattle.std.specs.Prelude.{◌≡◌, ◌+◌, ◌≤◌, length};
 
-use crate::reading::{more, shift};
-use crate::{BUFFER, SLOTS};
+use crate::reading::{more, pass_over};
+use crate::telling::Place;
 use plays::{Advanced, Playing, Stage};
-use streams::{Got, Status};
+use streams::Failure;
 
-// Where a journal broke: its record, counted from 1, and the byte at which that begins, counted from 0.
-#[derive(Clone, Copy)]
-pub enum Broken {
-    No,
-    At { record: u64, byte: u64 },
-}
-
-// How a replay ended: how many bytes of the limit were not read, whether the journal broke, and the
-// status. A read or a write that failed was said.
+// How a replay ended: how many bytes of the limit were not read, where the journal broke, if it did, and why the
+// replay did not end well. A read or a write that failed was said.
 #[derive(Clone, Copy)]
 pub struct Replayed {
     pub unread: u64,
-    pub broken: Broken,
-    pub status: Status,
+    pub broken: Option<Place>,
+    pub ended: Result<(), Failure>,
 }
 
-// What a replay does next: it plays what was read, which is the last of it or not, reads on, or has ended.
-#[derive(Clone, Copy)]
-enum Going {
-    Play { last: bool },
-    Read,
-    End(Status),
+// What a replay works with: the name that the program speaks under, the queue's slots, and a buffer for what is read and
+// one for what is written.
+#[derive(Drop)]
+pub struct Desk<'a> {
+    pub program: &'static str,
+    pub slots: &'a mut [u32],
+    pub input: &'a mut [u8],
+    pub out: &'a mut [u8],
 }
 
-// A replay between two steps: where it stands in the journal, the records that it played, whether the journal broke,
-// the bytes that wait in the input's buffer, and those that may still be read.
+// A replay between two steps: where it stands in the journal, the records that it played, where the journal broke, the
+// bytes that wait at the front of the input's buffer, and those that were read, of at most `limit`.
 #[derive(Clone, Copy)]
 struct Run {
     playing: Playing,
     records: u64,
-    broken: Broken,
+    broken: Option<Place>,
     have: usize,
-    unread: u64,
-    going: Going,
-}
-
-// Where a journal broke, if it breaks now: behind so many records, at a byte.
-fn broken_at(breaks: bool, before: Broken, records: u64, byte: u64) -> Broken {
-    if breaks {
-        return Broken::At {
-            record: records.wrapping_add(1),
-            byte,
-        };
-    }
-    before
-}
-
-// The status of a replay that wrote its last line.
-fn status_of(broken: Broken) -> Status {
-    match broken {
-        Broken::No => Status::Well,
-        Broken::At { record: _, byte: _ } => Status::Broken,
-    }
-}
-
-// What comes after a piece that wrote so many bytes, or could not write them: where none were to be written, the replay
-// has to read on.
-fn after(stage: Stage, broken: Broken, written: usize, open: bool, last: bool) -> Going {
-    if !open {
-        return Going::End(Status::WriteFailed);
-    }
-    if let Stage::Over = stage {
-        return Going::End(status_of(broken));
-    }
-    if written == 0 {
-        return Going::Read;
-    }
-    Going::Play { last }
-}
-
-// What playing a piece came to, and whether its lines were written.
-#[derive(Clone, Copy)]
-struct Played {
-    advanced: Advanced,
-    open: bool,
-}
-
-// Plays the first `have` bytes that were read, as far as the output's buffer has room, writes the lines, and moves the
-// bytes that are left to the front.
-fn play_piece(
-    rt: HostRuntime,
-    program: &[u8],
-    slots: &mut [u32],
-    input: &mut [u8],
-    out: &mut [u8],
-    have: usize,
-    playing: Playing,
-    last: bool,
-) -> Played
-    requires { have ≤ length input.old }
-    ensures { result.advanced.used ≤ have }
-{
-    let advanced = plays::advance(slots, playing, &input[0..have], last, out);
-    let written = advanced.written;
-    let open = streams::write_output(rt, program, &out[0..written]);
-    shift(input, advanced.used, have);
-    Played { advanced, open }
-}
-
-// Plays what was read, and says where the replay then stands.
-fn play_on(
-    rt: HostRuntime,
-    program: &[u8],
-    slots: &mut [u32],
-    input: &mut [u8],
-    out: &mut [u8],
-    run: Run,
-    last: bool,
+    read: u64,
     limit: u64,
-) -> Run
-    requires { (run.have ≤ length input.old) × (run.have + run.unread ≤ limit) }
-    ensures { (result.have ≤ run.have) × (result.unread ≡ run.unread) }
-{
-    let before = run.playing;
-    let played = play_piece(rt, program, slots, input, out, run.have, before, last);
-    let advanced = played.advanced;
-    let have = run.have - advanced.used;
-    // A record has bytes of its own, so a u64 can count them.
-    let records = run.records.wrapping_add(advanced.records as u64);
-    let known = run.broken;
-    let broken = broken_at(
-        advanced.broken,
-        known,
-        records,
-        limit - run.unread - have as u64,
-    );
-    let playing = advanced.playing;
-    let stage = playing.stage;
-    Run {
-        playing,
-        records,
-        broken,
-        have,
-        unread: run.unread,
-        going: after(stage, broken, advanced.written, played.open, last),
+    ghost within: { (have ≤ read) × (read ≤ limit) },
+}
+
+impl<'a> Desk<'a> {
+    // Plays the records of at most `limit` bytes of standard input on an empty queue in the slots, and writes a line for
+    // each and the last line. A read or a write that fails ends it, is said, and leaves the last line unwritten.
+    pub fn replay(&mut self, rt: HostRuntime, limit: u64) -> Replayed
+        ensures { result.unread ≤ limit }
+    {
+        let mut run = begun(limit);
+        let ended = run_on(rt, self, &mut run);
+        Replayed {
+            unread: limit - run.read,
+            broken: run.broken,
+            ended,
+        }
     }
-}
 
-// The same replay, with something else to do next.
-fn going_to(run: Run, going: Going) -> Run
-    ensures { (result.have ≡ run.have) × (result.unread ≡ run.unread) }
-{
-    let playing = run.playing;
-    let broken = run.broken;
-    Run {
-        playing,
-        records: run.records,
-        broken,
-        have: run.have,
-        unread: run.unread,
-        going,
-    }
-}
-
-// The same replay, with n bytes more to play.
-fn filled(run: Run, n: usize) -> Run
-    requires { (n ≤ run.unread) × (run.have + run.unread < 2 ^ 64) }
-    ensures { (result.have ≡ run.have + n) × (result.have + result.unread ≡ run.have + run.unread) }
-{
-    let mut next = going_to(run, Going::Play { last: false });
-    next.have += n;
-    next.unread -= n as u64;
-    next
-}
-
-// Reads on, behind the bytes that wait.
-fn read_on(rt: HostRuntime, program: &[u8], input: &mut [u8], run: Run) -> Run
-    requires { (run.have ≤ length input.old) × (run.have + run.unread < 2 ^ 64) }
-    ensures { (result.have ≤ length input.old) × (result.have + result.unread ≡ run.have + run.unread) }
-{
-    match more(rt, program, input, run.have, run.unread) {
-        Got::Bytes(n) => filled(run, n),
-        Got::End => going_to(run, Going::Play { last: true }),
-        Got::Failed(_) => going_to(run, Going::End(Status::ReadFailed)),
+    // Reads that many bytes and throws them away, and gives how many of them were missing.
+    pub fn pass_over(&mut self, rt: HostRuntime, bytes: u64) -> Result<u64, Failure> {
+        pass_over(rt, self.program, self.input, bytes)
     }
 }
 
 // Before the first byte.
 fn begun(limit: u64) -> Run
-    ensures { (result.have ≡ 0) × (result.unread ≡ limit) }
+    ensures { (result.have ≡ 0) × (result.read ≡ 0) × (result.limit ≡ limit) }
 {
     Run {
         playing: plays::start(),
         records: 0,
-        broken: Broken::No,
+        broken: None,
         have: 0,
-        unread: limit,
-        going: Going::Read,
+        read: 0,
+        limit,
     }
 }
 
-// What is left of a replay.
-fn ended(run: Run, status: Status) -> Replayed
-    ensures { result.unread ≡ run.unread }
-{
-    let broken = run.broken;
-    Replayed {
-        unread: run.unread,
-        broken,
-        status,
-    }
-}
-
-// Reads the journal in pieces, at most `limit` bytes, plays its records, and writes the lines of each piece before it
-// reads the next. A proved loop has to end, and nothing says that the input does: the turns are counted down.
-fn run_on(
-    rt: HostRuntime,
-    program: &[u8],
+// Plays the first `have` bytes of the input, as far as the output has room, and moves what is left of them to the front.
+fn play_piece(
     slots: &mut [u32],
+    playing: Playing,
     input: &mut [u8],
+    have: usize,
+    last: bool,
     out: &mut [u8],
-    limit: u64,
-) -> Replayed
-    ensures { result.unread ≤ limit }
+) -> Advanced
+    requires { have ≤ length input.old }
+    ensures { (result.used ≤ have) × (result.written ≤ length out.old) }
 {
-    let mut run = begun(limit);
-    let mut turns = u64::MAX;
-    while turns > 0 {
-        turns -= 1;
-        let going = run.going;
-        match going {
-            Going::Play { last } => {
-                run = play_on(rt, program, slots, input, out, run, last, limit);
-            }
-            Going::Read => {
-                run = read_on(rt, program, input, run);
-            }
-            Going::End(status) => return ended(run, status),
+    let advanced = plays::advance(slots, playing, &input[..have], last, out);
+    input.copy_within(advanced.used..have, 0);
+    advanced
+}
+
+// Plays the bytes that wait, of which no more come if these are the last, as far as the output's buffer has room, moves
+// what is left of them to the front, and writes the lines. Gives how many bytes it wrote.
+fn play_on(rt: HostRuntime, desk: &mut Desk, run: &mut Run, last: bool) -> Result<usize, Failure>
+    requires { run.old.have ≤ length desk.old.input.now }
+    ensures run { (run.new.have ≤ run.old.have) × (run.new.read ≡ run.old.read) × (run.new.limit ≡ run.old.limit) }
+    ensures buffer { length desk.new.input.now ≡ length desk.old.input.now }
+{
+    let playing = run.playing;
+    let have = run.have;
+    let advanced = play_piece(desk.slots, playing, desk.input, have, last, desk.out);
+    run.have -= advanced.used;
+    run.playing = advanced.playing;
+    // A record has bytes of its own, so a u64 can count them.
+    run.records = run.records.wrapping_add(advanced.records as u64);
+    if advanced.broken {
+        run.broken = Some(Place {
+            record: run.records.wrapping_add(1),
+            byte: run.read - run.have as u64,
+        });
+    }
+    streams::write_output(rt, desk.program, &desk.out[..advanced.written])?;
+    Ok(advanced.written)
+}
+
+// Reads on, behind the bytes that wait, and gives whether no more came.
+fn read_on(rt: HostRuntime, desk: &mut Desk, run: &mut Run) -> Result<bool, Failure>
+    requires { run.old.have ≤ length desk.old.input.now }
+    ensures run { (run.new.have ≤ length desk.new.input.now) × (run.new.limit ≡ run.old.limit) }
+    ensures buffer { length desk.new.input.now ≡ length desk.old.input.now }
+{
+    let count = more(rt, desk.program, desk.input, run.have, run.limit - run.read)?;
+    run.have += count;
+    run.read += count as u64;
+    Ok(count == 0)
+}
+
+// Reads the journal in pieces, plays its records, and writes the lines of each piece before it reads the next. A proved
+// loop has to end, and nothing says that the input does: the turns are counted.
+fn run_on(rt: HostRuntime, desk: &mut Desk, run: &mut Run) -> Result<(), Failure>
+    requires { run.old.have ≤ length desk.old.input.now }
+    ensures { run.new.limit ≡ run.old.limit }
+{
+    let mut last = false;
+    for _ in 0..u64::MAX {
+        let written = play_on(rt, desk, run, last)?;
+        if let Stage::Over = run.playing.stage {
+            return match run.broken {
+                Some(_) => Err(Failure::Broken),
+                None => Ok(()),
+            };
+        }
+        if written == 0 {
+            last = read_on(rt, desk, run)?;
         }
     }
-    ended(run, Status::ReadFailed)
-}
-
-// Plays the records of at most `limit` bytes of standard input on an empty queue in the slots, and writes a line for
-// each and the last line. A read or a write that fails ends it, is said under the program's name, and leaves the last
-// line unwritten.
-pub fn replay(
-    rt: HostRuntime,
-    program: &[u8],
-    slots: &mut [u32; SLOTS],
-    input: &mut [u8; BUFFER],
-    out: &mut [u8; BUFFER],
-    limit: u64,
-) -> Replayed
-    ensures { result.unread ≤ limit }
-{
-    run_on(rt, program, slots, input, out, limit)
+    Err(Failure::Read)
 }

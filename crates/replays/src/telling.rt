@@ -1,14 +1,20 @@
 // What is said of a journal that breaks.
-use streams::{say, say_number};
+use std::fmt;
 
-// Says which record is broken, counted from 1, and the byte at which it begins, counted from 0.
-pub fn say_broken(rt: HostRuntime, record: u64, byte: u64) {
-    say(rt, b"record ");
-    say_number(rt, record);
-    say(rt, b", which begins at byte ");
-    say_number(rt, byte);
-    say(
-        rt,
-        b" (the first byte is 0), is broken or cut short: nothing behind it was played\n",
-    );
+// Where a journal broke: its record, counted from 1, and the byte at which that begins, counted from 0.
+#[derive(Clone, Copy)]
+pub struct Place {
+    pub record: u64,
+    pub byte: u64,
+}
+
+impl fmt::Display for Place {
+    fn fmt<W: fmt::Write>(&self, f: &mut fmt::Formatter<W>) -> fmt::Result {
+        write!(
+            f,
+            "record {}, which begins at byte {} (the first byte is 0), is broken or cut short: ",
+            self.record, self.byte
+        )?;
+        f.write_str("nothing behind it was played")
+    }
 }

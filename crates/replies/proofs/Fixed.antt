@@ -1,10 +1,12 @@
 -- The structs that cross to C are fixed by what is said of them: every field is in it (see queue/proofs/Fixed).
 -- Assumes nothing.
 use mathlib.Core.Bool.{Bool}
-use mathlib.Core.Option.{Option, none, some}
+use mathlib.Core.Option as maybe
 use mathlib.Core.Path.{◌≡◌, refl}
 use Prim.Native.Nat.{ℕ}
+use Rattle.std.specs.Prelude.{Option, None, Some}
 use Rattle.conditions.specs.Tests.{test_of}
+use Rattle.conditions.specs.declared.Test.{Test as Asking}
 use Rattle.conditions.specs.declared.Test.TheVariants.{Below, AtLeast, Equal, NotEqual}
 use Rattle.queue.proofs.Fixed.{fixed}
 use Rattle.replies.specs.InC.{Said}
@@ -12,8 +14,6 @@ use Rattle.replies.specs.Kinds.{of_asked}
 use Rattle.replies.specs.Replies.{of_reply, of_found_reply, of_truth_reply, of_order_reply, of_search_reply, of_count_reply}
 use Rattle.rules.specs.Conditions.{Test, below, at_least, equal, other}
 use Rattle.replies.specs.declared.changes.Reply.{Reply}
-use Rattle.replies.specs.declared.kinds.Asked.{Asked}
-use Rattle.replies.specs.declared.kinds.Asked.TheVariants.{For, Unknown}
 use Rattle.replies.specs.declared.looks.FoundReply.{FoundReply}
 use Rattle.replies.specs.declared.looks.TruthReply.{TruthReply}
 use Rattle.replies.specs.declared.looks.OrderReply.{OrderReply}
@@ -43,20 +43,20 @@ one_count_reply = fixed of_count_reply (λ (s : ℕ × ℕ). record { refused = 
 
 -- ---- a test by its kind
 
-asked_from : Option Test → Asked
-asked_from none = Unknown
-asked_from (some (below k)) = For (Below k)
-asked_from (some (at_least k)) = For (AtLeast k)
-asked_from (some (equal k)) = For (Equal k)
-asked_from (some (other k)) = For (NotEqual k)
+asked_from : maybe.Option Test → Option Asking
+asked_from maybe.none = None
+asked_from (maybe.some (below k)) = Some (Below k)
+asked_from (maybe.some (at_least k)) = Some (AtLeast k)
+asked_from (maybe.some (equal k)) = Some (Equal k)
+asked_from (maybe.some (other k)) = Some (NotEqual k)
 
-asked_back : (a : Asked) → asked_from (of_asked a) ≡ a
+asked_back : (a : Option Asking) → asked_from (of_asked a) ≡ a
 unfolding asked_from test_of
-asked_back Unknown = refl
-asked_back (For (Below k)) = refl
-asked_back (For (AtLeast k)) = refl
-asked_back (For (Equal k)) = refl
-asked_back (For (NotEqual k)) = refl
+asked_back None = refl
+asked_back (Some (Below k)) = refl
+asked_back (Some (AtLeast k)) = refl
+asked_back (Some (Equal k)) = refl
+asked_back (Some (NotEqual k)) = refl
 
-pub one_asked : (a b : Asked) → of_asked a ≡ of_asked b → a ≡ b
+pub one_asked : (a b : Option Asking) → of_asked a ≡ of_asked b → a ≡ b
 one_asked = fixed of_asked asked_from asked_back

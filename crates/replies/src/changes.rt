@@ -1,18 +1,17 @@
 // The answers of the calls that change a list or a record. The caller's record
 // is changed where it stands, and what is said beside it fits two registers.
 // A refused call stores no word.
-ghost use Rattle.std.proofs.Math.Option.{none, some};
+ghost use Rattle.std.proofs.Math.Option.{none};
 ghost use Rattle.std.specs.Prelude.{◌≡◌};
-ghost use Rattle.queue.specs.Answers.{number_of, of_change, of_made};
-ghost use Rattle.elements.specs.Answers.{of_handed};
-ghost use Rattle.queue.specs.Pairs.{of_joined, of_split};
-ghost use Rattle.replies.specs.InC.{said, answer_in_c, make_in_c, pair_in_c};
+ghost use Rattle.queue.specs.Answers.{number_of};
+ghost use Rattle.elements.specs.Answers.{given};
+ghost use Rattle.replies.specs.InC.{said, element_in_c};
+ghost use Rattle.replies.specs.Crossed.{change_in_c, handed_in_c, paired_in_c};
 ghost use Rattle.replies.specs.Replies.{of_reply};
 
-use super::numbers::number_of;
-use super::records::{RECORD, store_deque};
+use super::records::{RECORD, Stored};
 use elements::Handed;
-use queue::{Change, Joined, Made, Refusal, Split};
+use queue::{Change, Pair, Refusal};
 
 // What such a call says: `refused` is the refusal number, or 0;
 // `handed` is 1 where `number` was handed over, else both are 0.
@@ -25,140 +24,92 @@ pub struct Reply {
     pub moved: usize,
 }
 
-// Accepted, with nothing to hand over.
-pub fn done(moved: usize) -> Reply
-    ensures { of_reply result ≡ said 0 moved none }
+// An element as it crosses: 1 and the number, or 0 and 0.
+pub fn crossing(number: Option<u32>) -> (u16, u32)
+    ensures { result ≡ element_in_c (given number) }
 {
-    Reply {
-        refused: 0,
-        handed: 0,
-        number: 0,
-        moved,
-    }
+    number.map_or((0, 0), |number| (1, number))
 }
 
-// Accepted, and the number is handed over.
-pub fn hands(number: u32, moved: usize) -> Reply
-    ensures { of_reply result ≡ said 0 moved (some number) }
-{
-    Reply {
-        refused: 0,
-        handed: 1,
-        number,
-        moved,
+impl Reply {
+    // Accepted, and the number is handed over, if there is one.
+    fn accept(number: Option<u32>, moved: usize) -> Reply
+        ensures { of_reply result ≡ said 0 moved (given number) }
+    {
+        let (handed, number) = crossing(number);
+        Reply {
+            refused: 0,
+            handed,
+            number,
+            moved,
+        }
     }
-}
 
-// Refused.
-pub fn refuses(refusal: Refusal, moved: usize) -> Reply
-    ensures { of_reply result ≡ said (number_of refusal) moved none }
-{
-    Reply {
-        refused: number_of(refusal),
-        handed: 0,
-        number: 0,
-        moved,
+    // Refused.
+    fn refuse(refusal: Refusal) -> Reply
+        ensures { of_reply result ≡ said (number_of refusal) 0 none }
+    {
+        Reply {
+            refused: refusal.number(),
+            handed: 0,
+            number: 0,
+            moved: 0,
+        }
     }
 }
 
 // Stores the record after a call that hands nothing over, if it was accepted.
-pub fn changed(q: &mut [usize; RECORD], change: Change) -> Reply
-    ensures { (of_reply result, q.new) ≡ answer_in_c q.old (of_change change) }
+pub fn changed<const N: usize, R: Stored<N>>(
+    words: &mut [usize; N],
+    change: Result<Change<R>, Refusal>,
+) -> Reply
+    ensures { (of_reply result, words.new) ≡ change_in_c R.words words.old change }
 {
     match change {
-        Change::Done { queue, moved } => {
-            store_deque(q, queue);
-            done(moved)
+        Ok(Change { after, moved }) => {
+            *words = after.to_words();
+            Reply::accept(None, moved)
         }
-        Change::Refused {
-            refusal,
-            queue: _,
-            moved,
-        } => refuses(refusal, moved),
+        Err(refusal) => Reply::refuse(refusal),
     }
 }
 
-// Stores the record after a call that hands an element over, if it was accepted.
-pub fn handed(q: &mut [usize; RECORD], handed: Handed) -> Reply
-    ensures { (of_reply result, q.new) ≡ answer_in_c q.old (of_handed handed) }
+// Stores the record after a call that can hand an element over, if it was accepted.
+pub fn handed<const N: usize, R: Stored<N>>(
+    words: &mut [usize; N],
+    handed: Result<Handed<R>, Refusal>,
+) -> Reply
+    ensures { (of_reply result, words.new) ≡ handed_in_c R.words words.old handed }
 {
     match handed {
-        Handed::Number {
-            number,
-            queue,
-            moved,
-        } => {
-            store_deque(q, queue);
-            hands(number, moved)
+        Ok(
+            Handed {
+                number,
+                after,
+                moved,
+            },
+        ) => {
+            *words = after.to_words();
+            Reply::accept(number, moved)
         }
-        Handed::Nothing { queue, moved } => {
-            store_deque(q, queue);
-            done(moved)
-        }
-        Handed::Refused {
-            refusal,
-            queue: _,
-            moved,
-        } => refuses(refusal, moved),
+        Err(refusal) => Reply::refuse(refusal),
     }
 }
 
-// Stores the record that a call made, if it made one.
-pub fn made(q: &mut [usize; RECORD], made: Made) -> Reply
-    ensures { (of_reply result, q.new) ≡ make_in_c q.old (of_made made) }
+// Stores both records after a call on two queues, if it was accepted.
+pub fn paired(
+    q: &mut [usize; RECORD],
+    other: &mut [usize; RECORD],
+    pair: Result<Change<Pair>, Refusal>,
+) -> Reply
+    ensures { (of_reply result, q.new, other.new) ≡ paired_in_c q.old other.old pair }
 {
-    match made {
-        Made::Done { queue, moved } => {
-            store_deque(q, queue);
-            done(moved)
+    match pair {
+        Ok(Change { after, moved }) => {
+            *q = after.queue.to_words();
+            *other = after.other.to_words();
+            Reply::accept(None, moved)
         }
-        Made::Refused { refusal, moved } => refuses(refusal, moved),
-    }
-}
-
-// Stores both records after `append` or a portion, if it was accepted.
-pub fn joined(q: &mut [usize; RECORD], other: &mut [usize; RECORD], joined: Joined) -> Reply
-    ensures { (of_reply result, q.new, other.new)
-        ≡ pair_in_c q.old other.old (of_joined joined) }
-{
-    match joined {
-        Joined::Done {
-            queue,
-            other: theirs,
-            moved,
-        } => {
-            store_deque(q, queue);
-            store_deque(other, theirs);
-            done(moved)
-        }
-        Joined::Refused {
-            refusal,
-            queue: _,
-            other: _,
-            moved,
-        } => refuses(refusal, moved),
-    }
-}
-
-// Stores the record after `split_off` or a whole move, and the target's, if it was accepted.
-pub fn split(q: &mut [usize; RECORD], t: &mut [usize; RECORD], split: Split) -> Reply
-    ensures { (of_reply result, q.new, t.new)
-        ≡ pair_in_c q.old t.old (of_split split) }
-{
-    match split {
-        Split::Done {
-            queue,
-            target,
-            moved,
-        } => {
-            store_deque(q, queue);
-            store_deque(t, target);
-            done(moved)
-        }
-        Split::Refused {
-            refusal,
-            queue: _,
-            moved,
-        } => refuses(refusal, moved),
+        Err(refusal) => Reply::refuse(refusal),
     }
 }

@@ -5,20 +5,19 @@
 // larger struct would come back through memory, as two words that are loaded as one, and wait there. A refused call
 // stores no word. A lent slice crosses as a pointer and a length, and a test as a kind and a number. What a caller must
 // keep to is said in include/scorebucket.h.
+// Stays: the C interface has no enum with a value and no Option or Result. So here and in the crates `exports_..` what
+// crosses is a refusal's number, a flag beside the value that it speaks of, an order's number, a test's kind and a
+// record's words; everything behind them has types of its own.
 #![tactic(auto)]
 
 mod changes; // changes.rt: calls that change a list or a record
 mod kinds; // kinds.rt: a test by its kind
 mod looks; // looks.rt: calls that only look
-mod numbers; // numbers.rt: the refusal number
-mod opens; // opens.rt: drains, walks and the places of runs
 mod records; // records.rt: the records as numbers in the caller's memory
+mod stores; // stores.rt: calls that only look, and store a walk or the places of runs
 
-pub use changes::{Reply, changed, handed, joined, made, refuses, split};
-pub use kinds::{Asked, test_of_kind};
-pub use looks::{
-    CountReply, FoundReply, OrderReply, SearchReply, TruthReply, of_found, of_ordering, of_point,
-    of_searched, of_truth, of_written,
-};
-pub use opens::{begun, closed, drawn, opened, ranged, stepped};
-pub use records::{DRAIN, RECORD, RUNS, WALK, deque_in, drain_in, walk_in};
+pub use changes::{Reply, changed, handed, paired};
+pub use kinds::test_of_kind;
+pub use looks::{CountReply, FoundReply, OrderReply, SearchReply, TruthReply};
+pub use records::{DRAIN, RECORD, RUNS, Stored, WALK, deque_in, drain_in, walk_in};
+pub use stores::{looked, stepped};

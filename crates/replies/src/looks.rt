@@ -1,13 +1,15 @@
 // The answers of the calls that only look. Refused, the other fields are 0 or false.
 ghost use Rattle.std.specs.Prelude.{◌≡◌};
-ghost use Rattle.elements.specs.Answers.{of_found};
-ghost use Rattle.queue.specs.Looks.{of_truth, of_ordering, of_searched, of_point, of_written};
+ghost use Rattle.elements.specs.Answers.{given};
+ghost use Rattle.queue.specs.Looks.{look_of, order_of, seen, spot_of};
+ghost use Rattle.replies.specs.InC.{look_in_c, order_number, spot_numbers};
 ghost use Rattle.replies.specs.InC.{found_in_c, truth_in_c, order_in_c, spot_in_c, count_in_c};
-ghost use Rattle.replies.specs.Replies.{of_found_reply, of_truth_reply, of_order_reply, of_search_reply, of_count_reply};
+ghost use Rattle.replies.specs.Replies.{of_found_reply, of_truth_reply, of_order_reply};
+ghost use Rattle.replies.specs.Replies.{of_search_reply, of_count_reply};
 
-use super::numbers::number_of;
-use elements::Found;
-use queue::{Ordering, Point, Searched, Truth, Written};
+use super::changes::crossing;
+use queue::Refusal;
+use std::cmp::Ordering;
 
 // What a look at one element answers: `found` is 1 where `number` stands there, else both are 0.
 #[repr(C)]
@@ -51,111 +53,91 @@ pub struct CountReply {
     pub count: usize,
 }
 
-// The answer of `get`, `front` and `back`.
-pub fn of_found(found: Found) -> FoundReply
-    ensures { of_found_reply result ≡ found_in_c (of_found found) }
+// 0 and what was seen, or the refusal number and a blank.
+fn flat<A: Copy>(answer: Result<A, Refusal>, blank: A) -> (u16, A)
+    ensures { result ≡ look_in_c (λ a. a) blank (seen answer) }
 {
-    match found {
-        Found::Number(number) => FoundReply {
-            refused: 0,
-            found: 1,
+    match answer {
+        Ok(seen) => (0, seen),
+        Err(refusal) => (refusal.number(), blank),
+    }
+}
+
+// The answer of `get`, `front` and `back`.
+impl From<Result<Option<u32>, Refusal>> for FoundReply {
+    ghost from_gives = { λ found reply. of_found_reply reply ≡ found_in_c (look_of given found) };
+
+    fn from(found: Result<Option<u32>, Refusal>) -> FoundReply {
+        let (refused, (found, number)) = flat(found.map(crossing), (0, 0));
+        FoundReply {
+            refused,
+            found,
             number,
-        },
-        Found::Nothing => FoundReply {
-            refused: 0,
-            found: 0,
-            number: 0,
-        },
-        Found::Refused(refusal) => FoundReply {
-            refused: number_of(refusal),
-            found: 0,
-            number: 0,
-        },
+        }
     }
 }
 
 // The answer of `contains` and `eq`.
-pub fn of_truth(truth: Truth) -> TruthReply
-    ensures { of_truth_reply result ≡ truth_in_c (of_truth truth) }
+impl From<Result<bool, Refusal>> for TruthReply {
+    ghost from_gives = { λ truth reply. of_truth_reply reply ≡ truth_in_c (seen truth) };
+
+    fn from(truth: Result<bool, Refusal>) -> TruthReply {
+        let (refused, is) = flat(truth, false);
+        TruthReply { refused, is }
+    }
+}
+
+// The number of an order.
+fn order_number(ordering: Ordering) -> u16
+    ensures { result ≡ order_number (order_of ordering) }
 {
-    match truth {
-        Truth::Is(is) => TruthReply { refused: 0, is },
-        Truth::Refused(refusal) => TruthReply {
-            refused: number_of(refusal),
-            is: false,
-        },
+    match ordering {
+        Ordering::Less => 1,
+        Ordering::Equal => 2,
+        Ordering::Greater => 3,
     }
 }
 
 // The answer of `cmp`.
-pub fn of_ordering(ordering: Ordering) -> OrderReply
-    ensures { of_order_reply result ≡ order_in_c (of_ordering ordering) }
+impl From<Result<Ordering, Refusal>> for OrderReply {
+    ghost from_gives = { λ ordering reply. of_order_reply reply ≡ order_in_c (look_of order_of ordering) };
+
+    fn from(ordering: Result<Ordering, Refusal>) -> OrderReply {
+        let (refused, order) = flat(ordering.map(order_number), 0);
+        OrderReply { refused, order }
+    }
+}
+
+// The position of a search's answer, and whether x stands there: 1, or 0.
+fn spot_numbers(spot: Result<usize, usize>) -> (usize, u16)
+    ensures { result ≡ spot_numbers (spot_of spot) }
 {
-    match ordering {
-        Ordering::Less => OrderReply {
-            refused: 0,
-            order: 1,
-        },
-        Ordering::Equal => OrderReply {
-            refused: 0,
-            order: 2,
-        },
-        Ordering::Greater => OrderReply {
-            refused: 0,
-            order: 3,
-        },
-        Ordering::Refused(refusal) => OrderReply {
-            refused: number_of(refusal),
-            order: 0,
-        },
+    match spot {
+        Ok(position) => (position, 1),
+        Err(position) => (position, 0),
     }
 }
 
 // The answer of `binary_search`.
-pub fn of_searched(searched: Searched) -> SearchReply
-    ensures { of_search_reply result ≡ spot_in_c (of_searched searched) }
-{
-    match searched {
-        Searched::Found(position) => SearchReply {
-            refused: 0,
-            found: 1,
+impl From<Result<Result<usize, usize>, Refusal>> for SearchReply {
+    ghost from_gives = { λ spot reply. of_search_reply reply ≡ spot_in_c (look_of spot_of spot) };
+
+    fn from(spot: Result<Result<usize, usize>, Refusal>) -> SearchReply {
+        let (refused, (position, found)) = flat(spot.map(spot_numbers), (0, 0));
+        SearchReply {
+            refused,
+            found,
             position,
-        },
-        Searched::Place(position) => SearchReply {
-            refused: 0,
-            found: 0,
-            position,
-        },
-        Searched::Refused(refusal) => SearchReply {
-            refused: number_of(refusal),
-            found: 0,
-            position: 0,
-        },
+        }
     }
 }
 
-// The answer of `partition_point`.
-pub fn of_point(point: Point) -> CountReply
-    ensures { of_count_reply result ≡ count_in_c (of_point point) }
-{
-    match point {
-        Point::At(count) => CountReply { refused: 0, count },
-        Point::Refused(refusal) => CountReply {
-            refused: number_of(refusal),
-            count: 0,
-        },
-    }
-}
+// The answer of `partition_point` and `write_image`.
+impl From<Result<usize, Refusal>> for CountReply {
+    ghost from_gives = { λ count reply. of_count_reply reply ≡ count_in_c (seen count) };
 
-// The answer of `write_image`.
-pub fn of_written(written: Written) -> CountReply
-    ensures { of_count_reply result ≡ count_in_c (of_written written) }
-{
-    match written {
-        Written::Bytes(count) => CountReply { refused: 0, count },
-        Written::Refused(refusal) => CountReply {
-            refused: number_of(refusal),
-            count: 0,
-        },
+    fn from(count: Result<usize, Refusal>) -> CountReply {
+        let (refused, count) = flat(count, 0);
+        CountReply { refused, count }
     }
 }

@@ -5,12 +5,13 @@ use mathlib.Core.Option.{none}
 use mathlib.Core.Path.{◌≡◌, ap, ◌∙◌, refl, sym}
 use Prim.Native.Nat.{ℕ, suc, ◌≤◌, ◌-◌, ◌<◌, ◌+◌}
 use native.Mathlib.Omega.{arith}
+use Rattle.std.specs.List.{prefix_len}
 use lib.ListN.{length, take, drop, drop_of_length-le, length-append}
 use lib.Seq.{take_all}
 use Rattle.queue.proofs.Checks.{fine_change}
-use Rattle.retains.proofs.Keeps.{those_split, behind_split, leading_fits}
-use Rattle.retains.specs.Leading.{leading}
-use Rattle.rules.proofs.Count.{length-those}
+use Rattle.retains.proofs.Keeps.{those_split, behind_split}
+use Rattle.retains.proofs.Stages.{leading_upto}
+use Rattle.rules.proofs.Held.{length-held}
 use Rattle.rules.proofs.Places.{place-place}
 use Rattle.rules.proofs.Ring.{write-behind}
 use Rattle.rules.proofs.Slots.{length_list_of, list_of_drop, list_of_take}
@@ -24,13 +25,13 @@ use Rattle.rules.specs.Refusals.{on_change}
 use Rattle.rules.specs.Slots.{list_of, lay}
 
 module _ (b : List ℕ) (r : Rec) (first : on_change (length b) r 0 ≡ 0) (t : Test) (k : ℕ)
-    (at-k : k ≡ leading (meets t) (list_of b r.head r.len)) where
+    (at-k : k ≡ prefix_len (meets t) (held b r)) where
   l : List ℕ
-  l = list_of b r.head r.len
+  l = held b r
 
   many : length l ≡ r.len
   unfolding l
-  many = length_list_of b r.head r.len
+  many = length-held b r
 
   split : those (meets t) l ≡ take k l ++ those (meets t) (drop (suc k) l)
   unfolding l
@@ -40,9 +41,8 @@ module _ (b : List ℕ) (r : Rec) (first : on_change (length b) r 0 ≡ 0) (t : 
   unfolding l
   later = rw at-k (behind_split (meets t) l)
 
-  pub kept_upto : k ≤ r.len
-  unfolding l
-  kept_upto = omega (arith, leading_fits (meets t) l, many)
+  kept_upto : k ≤ r.len
+  kept_upto = leading_upto (meets t) b r k at-k
 
   -- none was rejected
   module _ (all : k ≡ r.len) where
@@ -65,7 +65,7 @@ module _ (b : List ℕ) (r : Rec) (first : on_change (length b) r 0 ≡ 0) (t : 
     rest = list_of b (place (length b) p 1) (r.len - k - 1)
 
     behind_first : drop (suc k) l ≡ rest
-    unfolding l
+    unfolding l held
     behind_first =
         let g = (fine_change b r first).good in
         let low : r.head < length b = omega (arith, kept_upto) in
@@ -77,14 +77,6 @@ module _ (b : List ℕ) (r : Rec) (first : on_change (length b) r 0 ≡ 0) (t : 
         ∙ list_of_drop b r.head low (k + 1) r.len (omega (arith, kept_upto)) g.fits
         ∙ ap (λ (i : ℕ). list_of b i (r.len - (k + 1))) next
         ∙ ap (list_of b (place (length b) p 1)) (omega arith)
-
-    pub retained_few : m ≡ length (those (meets t) rest) → k + m ≤ r.len
-    retained_few at-m = omega (
-      arith,
-      kept_upto,
-      length-those (meets t) rest,
-      length_list_of b (place (length b) p 1) (r.len - k - 1),
-    )
 
     pub retained : (r' : Rec) (b' : List ℕ) → m ≡ length (those (meets t) rest) → b' ≡ lay b p (those (meets t) rest)
         → r' ≡ stepped r r.head (k + m)

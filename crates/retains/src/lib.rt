@@ -2,20 +2,21 @@
 // is swapped, so a slot that holds no element after the call keeps its old value.
 #![tactic(auto)]
 
-ghost use Rattle.std.specs.Prelude.{◌≡◌, ◌≤◌, ◌<◌, ◌-◌, ◌+◌, length, take};
+ghost use Rattle.std.specs.Prelude.{◌≡◌, ◌≤◌, ◌<◌, length};
+ghost use Rattle.std.specs.List.{prefix_len};
 ghost use Rattle.rules.specs.Conditions.{meets, those};
 ghost use Rattle.rules.specs.Middle.{retain};
 ghost use Rattle.rules.specs.Outcome.{told, do_rule};
 ghost use Rattle.rules.specs.Places.{place};
-ghost use Rattle.rules.specs.Refusals.{most_slots};
+ghost use Rattle.rules.specs.Records.{held};
+ghost use Rattle.rules.specs.Refusals.{most_slots, on_queue};
 ghost use Rattle.rules.specs.Slots.{list_of, lay};
 ghost use Rattle.conditions.specs.Tests.{test_of};
 ghost use Rattle.queue.specs.Answers.{rec_of, of_change};
-ghost use Rattle.retains.specs.Leading.{leading};
 
 use conditions::Test;
 use places::WrappedIndex;
-use queue::{Change, Checked, Deque};
+use queue::{Change, Deque, Refusal};
 
 // How many elements are sifted at a time. A longer block is hardly faster,
 // and its array, which each call clears, costs a short queue more.
@@ -23,98 +24,42 @@ const BLOCK: usize = 64;
 
 // How many elements of a part stand before the first rejected one; all of them where none is rejected.
 fn leading_in(part: &[u32], test: Test) -> usize
-    ensures { result ≡ leading (meets (test_of test)) part.now }
+    ensures value { result ≡ prefix_len (meets (test_of test)) part.now }
+    ensures few { result ≤ length part.now }
 {
-    let mut i: usize = 0;
-    while i < part.len() {
-        if conditions::meets(test, part[i]) {
-            i += 1;
-        } else {
-            return i;
-        }
-    }
-    i
+    part.iter()
+        .take_while(|&&x| conditions::meets(test, x))
+        .count()
 }
 
 // Stage 1: how many elements stand before the first rejected one; `len` where none is rejected.
-// The run from the first slot on is looked at where the one up to the last slot passed whole.
-fn before_first_rejected(slots: &[u32], head: WrappedIndex, len: usize, test: Test) -> usize
-    requires { (head.0 ≤ length slots.now - 1) × (len ≤ length slots.now) }
-    ensures { result ≡ leading (meets (test_of test)) (list_of slots.now head.0 len) }
+// Stays: two looks at a run, the back run's where the front run passed whole. One chain takes three times as long.
+fn before_first_rejected(slots: &[u32], q: Deque, test: Test) -> usize
+    requires { on_queue (length slots.now) (rec_of q) 0 ≡ 0 }
+    ensures value { result ≡ prefix_len (meets (test_of test)) (held slots.now (rec_of q)) }
+    ensures few { result ≤ q.len }
 {
-    let cap = slots.len();
-    let h = head.as_index();
-    let room = cap - h;
-    if len <= room {
-        let end = h + len;
-        return leading_in(&slots[h..end], test);
+    let runs = runs::whole_runs(slots, q);
+    let passed = leading_in(runs.front, test);
+    if passed < runs.front.len() {
+        return passed;
     }
-    let front = leading_in(&slots[h..cap], test);
-    if front < room {
-        return front;
-    }
-    let rest = len - room;
-    room + leading_in(&slots[0..rest], test)
+    passed + leading_in(runs.back, test)
 }
 
-// Stores the elements of a part that meet the test in the front of `held`,
-// in order, and counts them. Each is stored and only the kept are counted:
-// so the loop has no branch that the test decides.
-fn sift(part: &[u32], test: Test, held: &mut [u32]) -> usize
+// The elements of a part that meet the test, in order, as the front of `held`, where they are stored.
+// Each element is stored and only the kept are counted: so the loop has no branch that the test decides.
+fn sift<'a>(part: &[u32], test: Test, held: &'a mut [u32]) -> &'a [u32]
     requires { length part.now ≤ length held.old }
-    ensures value { result ≡ length (those (meets (test_of test)) part.now) }
-    ensures held_after { take result held.new ≡ those (meets (test_of test)) part.now }
+    ensures value { result.now ≡ those (meets (test_of test)) part.now }
+    ensures few { length result.now ≤ length part.now }
 {
-    let mut kept: usize = 0;
-    let mut i: usize = 0;
-    while i < part.len() {
-        let x = part[i];
+    let mut kept = 0;
+    for &x in part {
         held[kept] = x;
-        if conditions::meets(test, x) {
-            kept += 1;
-        }
-        i += 1;
+        kept += usize::from(conditions::meets(test, x));
     }
-    kept
-}
-
-// Stores those of the n elements from slot `from` on that meet the test
-// from `into` on, and counts them. All are read before one is written.
-fn move_part(
-    slots: &mut [u32],
-    from: usize,
-    n: usize,
-    into: WrappedIndex,
-    test: Test,
-    held: &mut [u32],
-) -> usize
-    requires { (from + n ≤ length slots.old) × (n ≤ length held.old) × (into.0 < length slots.old)
-        × (length slots.old ≤ most_slots) }
-    ensures value { result ≡ length (those (meets (test_of test)) (list_of slots.old from n)) }
-    ensures slots_after { slots.new
-        ≡ lay slots.old into.0 (those (meets (test_of test)) (list_of slots.old from n)) }
-{
-    let end = from + n;
-    let kept = sift(&slots[from..end], test, held);
-    copies::copy_slice(slots, into, &held[0..kept]);
-    kept
-}
-
-// The least of three numbers.
-fn least(a: usize, b: usize, c: usize) -> usize
-    requires { (0 < a) × (0 < b) × (0 < c) }
-    ensures { (0 < result) × (result ≤ a) × (result ≤ b) × (result ≤ c) }
-{
-    if a <= b {
-        if a <= c {
-            return a;
-        }
-        return c;
-    }
-    if b <= c {
-        return b;
-    }
-    c
+    &held[..kept]
 }
 
 // Stage 2: of the `len` elements behind `to`, T, stores those that meet the test from there
@@ -126,6 +71,7 @@ fn move_kept(slots: &mut [u32], to: WrappedIndex, len: usize, test: Test) -> usi
         ≡ length
         (those (meets (test_of test))
         (list_of slots.old (place (length slots.old) to.0 1) len)) }
+    ensures few { result ≤ len }
     ensures slots_after { slots.new
         ≡ lay slots.old to.0
         (those (meets (test_of test))
@@ -139,41 +85,38 @@ fn move_kept(slots: &mut [u32], to: WrappedIndex, len: usize, test: Test) -> usi
     // 3 [d E _ _ _ _ A C E]
     //
     let cap = slots.len();
-    let mut held = [0u32; BLOCK];
+    let mut held = [0; BLOCK];
     let mut from = places::wrap_add(cap, to, 1);
     let mut into = to;
     let mut left = len;
-    let mut moved: usize = 0;
+    let mut moved = 0;
     while left > 0 {
         let start = from.as_index();
-        let n = least(left, cap - start, BLOCK);
-        let kept = move_part(slots, start, n, into, test, &mut held);
-        into = places::wrap_add(cap, into, kept);
+        let n = left.min(cap - start).min(BLOCK);
+        let kept = sift(&slots[start..start + n], test, &mut held);
+        copies::copy_slice(slots, into, kept);
+        into = places::wrap_add(cap, into, kept.len());
         from = places::wrap_add(cap, from, n);
         left -= n;
-        moved += kept;
+        moved += kept.len();
     }
     moved
 }
 
 // Keeps, in order, the elements that meet the test.
-pub fn retain(slots: &mut [u32], q: Deque, test: Test) -> Change
-    ensures { (of_change result, slots.new) ≡ told (do_rule slots.old (rec_of q) (retain (test_of test))) }
+pub fn retain(slots: &mut [u32], q: Deque, test: Test) -> Result<Change<Deque>, Refusal>
+    ensures { (of_change q result, slots.new) ≡ told (do_rule slots.old (rec_of q) (retain (test_of test))) }
 {
     let cap = slots.len();
-    if let Checked::Refused(refusal) = queue::check_change(cap, q) {
-        return queue::refused(refusal, q);
+    queue::check_change(cap, q)?;
+    let kept = before_first_rejected(slots, q, test);
+    if kept == q.len {
+        return Ok(Change { after: q, moved: 0 });
     }
-    let head = q.head;
-    let len = q.len;
-    let kept = before_first_rejected(slots, head, len, test);
-    if kept == len {
-        return Change::Done { queue: q, moved: 0 };
-    }
-    let to = places::wrap_add(cap, head, kept);
-    let moved = move_kept(slots, to, len - kept - 1, test);
-    Change::Done {
-        queue: queue::stepped(q, head, kept + moved),
+    let to = places::wrap_add(cap, q.head, kept);
+    let moved = move_kept(slots, to, q.len - kept - 1, test);
+    Ok(Change {
+        after: queue::stepped(q, q.head, kept + moved),
         moved,
-    }
+    })
 }

@@ -1,13 +1,13 @@
 -- A look that asks more than the tests of slots and record: refused,
 -- or what it sees. n: the number that it asks for. Assumes nothing.
-use mathlib.Core.List.{List}
-use mathlib.Core.Path.{◌≡◌, sym, ◌∙◌, refl}
+use mathlib.Core.Path.{◌≡◌, sym, refl}
 use Prim.Native.Nat.{ℕ, zero, suc}
 use native.Mathlib.Omega.{arith}
-use lib.ListN.{length}
-use Rattle.queue.proofs.Checks.{failed_number}
+use Rattle.std.specs.Prelude.{Result, IsErrAnd}
+use Rattle.queue.proofs.Checks.{same_refusal}
 use Rattle.queue.proofs.Numbers.{some_number}
-use Rattle.queue.specs.Answers.{number_of, number_in}
+use Rattle.queue.specs.Answers.{number_of}
+use Rattle.queue.specs.Looks.{look_of}
 use Rattle.rules.proofs.Refusals.{queue-stop}
 use Rattle.rules.proofs.Choices.{unless-stop, unless-go}
 use Rattle.rules.specs.Looks.{refuses, looked, sees}
@@ -15,24 +15,21 @@ use Rattle.rules.specs.Records.{Rec}
 use Rattle.rules.specs.Refusals.{on_queue}
 use Rattle.rules.specs.Choices.{unless}
 use Rattle.queue.specs.declared.refusals.Refusal.{Refusal}
-use Rattle.queue.specs.declared.refusals.Checked.{Checked}
-use Rattle.queue.specs.declared.refusals.Checked.TheVariants.{Refused as Failed}
 
-module _ {A : Type 0} (n : ℕ) (a : A) where
-  pub asks_refused : (x : Refusal) → n ≡ number_of x → refuses (number_of x) ≡ looked n a
+module _ {A : Type 0} (n : ℕ) (u : A) where
+  -- at a `?`: the look answers the refusal x that a test gave
+  pub asks_refused : {B : Type 0} (say : B → A) (a : Result B Refusal) (x : Refusal) → IsErrAnd a (λ y. y ≡ x)
+      → number_of x ≡ n → look_of say a ≡ looked n u
   unfolding looked
-  asks_refused x e = sym (unless-stop n _ _ (λ z. some_number x (sym e ∙ z)) ∙ rw e)
+  asks_refused say a x h e = rw (same_refusal a x h, ← e) (sym (unless-stop (number_of x) _ _ (some_number x)))
 
-  pub asks_seen : n ≡ 0 → sees a ≡ looked n a
+  pub asks_seen : n ≡ 0 → sees u ≡ looked n u
   unfolding looked
   asks_seen e = sym (unless-go n _ _ e)
 
 -- refused by the tests of slots and record, whatever is asked after
-pub asks_first : {A : Type 0} (b : List ℕ) (r : Rec) (t : Checked) → number_in t ≡ on_queue (length b) r 0 → (x : Refusal)
-    → t ≡ Failed x → (k : ℕ) (a : A)
-    → refuses (number_of x) ≡ looked (on_queue (length b) r k) a
-asks_first b r t asked x f k a =
-    asks_refused _ a x (queue-stop (length b) r k (number_of x) (some_number x) (failed_number t x _ asked f))
+pub asks_first : (c : ℕ) (r : Rec) (k : ℕ) (x : Refusal) → number_of x ≡ on_queue c r 0 → number_of x ≡ on_queue c r k
+asks_first c r k x e = sym (queue-stop c r k (number_of x) (some_number x) (sym e))
 
 -- ---- what an answer tells of the look
 

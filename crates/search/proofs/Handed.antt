@@ -1,26 +1,19 @@
 -- The run that the search is handed, by what is known of the back run's first element. Assumes nothing.
 use mathlib.Core.Bool.{Bool, false, true}
 use mathlib.Core.List.{List, [], ◌∷◌}
-use mathlib.Core.Logic.{◌≢◌}
-use mathlib.Core.Path.{◌≡◌, refl}
+use mathlib.Core.Path.{◌≡◌, ap, ◌∙◌}
 use Prim.Native.Nat.{ℕ, ◌<◌}
 use native.Mathlib.Nat.{not-suc-le-zero}
 use native.Mathlib.Omega.{arith}
+use denote.Ref.{Bor}
 use lib.ListN.{length, get_or}
+use Rattle.std.specs.List.{slice_get}
+use Rattle.std.specs.Option.{MatchOption, option_copied}
+use Rattle.std.specs.Prelude.{Option, None, Some}
 use Rattle.rules.specs.Choices.{whether}
 use Rattle.search.specs.Handed.{begins, handed_run, counted_from}
 
 module _ (f : ℕ → Bool) where
-  pub begins_none : (s : List ℕ) → length s ≡ 0 → false ≡ begins f s
-  unfolding begins
-  begins_none [] e = refl
-  begins_none (v ∷ s) e = absurd (omega arith)
-
-  pub begins_some : (s : List ℕ) → length s ≢ 0 → f (get_or s 0 0) ≡ begins f s
-  unfolding begins
-  begins_some [] ne = absurd (ne refl)
-  begins_some (v ∷ s) ne = refl
-
   pub begins-less : (s : List ℕ) → begins f s ≡ true → (0 < length s) × (f (get_or s 0 0) ≡ true)
   unfolding begins
   begins-less [] e = let z : ◌≡◌ {A = ℕ} 0 1 = cc in absurd (omega arith)
@@ -49,3 +42,12 @@ module _ (f : ℕ → Bool) where
       pub front_counted : 0 ≡ counted_from f front back
       unfolding counted_from whether
       front_counted = rw not-less
+
+-- what a test of the first element, if there is one, answered
+pub begins_told : (f : ℕ → Bool) (s : List ℕ) (o : Option (Bor ℕ)) (r : Bool) {P : Bor ℕ → Type 0}
+    → option_copied o ≡ slice_get s 0 → MatchOption o (r ≡ false) P → ((x : Bor ℕ) → P x → r ≡ f x.now) → r ≡ begins f s
+unfolding begins
+begins_told f [] None r e m told = m
+begins_told f [] (Some x) r e m told = cc
+begins_told f (v ∷ s) None r e m told = cc
+begins_told f (v ∷ s) (Some x) r e m told = let h : x.now ≡ v = cc in told x m ∙ ap f h

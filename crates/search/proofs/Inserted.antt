@@ -26,7 +26,8 @@ module _ (l : List ℕ) (p x : ℕ) (in_l : p ≤ length l) where
   at_behind i gt =
       let there : i ≡ length (take p l) + suc (i - 1 - p) = omega (arith, long) in
       let back : p + (i - 1 - p) ≡ i - 1 = omega arith in
-      ap (λ (j : ℕ). get_or (inserted l p x) j 0) there ∙ get_or-append-add (take p l) (x ∷ drop p l) (suc (i - 1 - p)) 0
+      ap (λ (j : ℕ). get_or (inserted l p x) j 0) there
+      ∙ get_or-append-add (take p l) (x ∷ drop p l) (suc (i - 1 - p)) 0
       ∙ get_or-drop p l (i - 1 - p) 0 ∙ ap (λ (j : ℕ). get_or l j 0) back
 
   long-inserted : length (inserted l p x) ≡ suc (length l)
@@ -35,7 +36,8 @@ module _ (l : List ℕ) (p x : ℕ) (in_l : p ≤ length l) where
   module _ (ordered : IsSorted l) (lesser : (i : ℕ) → i < p → get_or l i 0 < x)
       (greater-from : (i : ℕ) → p ≤ i → i < length l → x < get_or l i 0) where
     -- x, or what stands behind it, is at least what stands before
-    behind_ok : (i j : ℕ) → i < j → p ≤ j → j < suc (length l) → get_or (inserted l p x) i 0 ≤ get_or (inserted l p x) j 0
+    behind_ok : (i j : ℕ) → i < j → p ≤ j → j < suc (length l)
+        → get_or (inserted l p x) i 0 ≤ get_or (inserted l p x) j 0
     behind_ok i j lt ge in-j =
         ⊎_elim
         (λ at_j.

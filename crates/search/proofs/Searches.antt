@@ -1,19 +1,18 @@
 -- The steps of `binary_search` and `partition_point`, put together as the code does. Assumes nothing.
-use mathlib.Core.Bool.{Bool, true, false}
+use mathlib.Core.Bool.{Bool, true, false, ◌&&◌}
 use mathlib.Core.List.{List, [], ◌∷◌}
-use mathlib.Core.Logic.{◌≢◌}
 use mathlib.Core.Path.{◌≡◌, refl, ◌∙◌, ap}
-use Prim.Native.Nat.{ℕ, ◌+◌, ◌≤◌, ◌<◌}
+use Prim.Native.Nat.{ℕ, ◌+◌, ◌≤◌}
 use native.Mathlib.Nat.{zero-add}
 use native.Mathlib.Omega.{arith}
-use borrow.Author.Tests.{lt-ltb, eq-eqb, ne_eqb, le-ltb}
-use lib.Dec.{ltb}
+use denote.Ref.{Bor}
+use lib.Dec.{eqb, ltb}
 use lib.ListN.{length, get_or}
-use Rattle.queue.proofs.Looks.{look_first}
-use Rattle.queue.specs.Answers.{number_in, number_of}
+use Rattle.std.specs.Option.{is_some, option_eq, option_map, unwrap_or}
+use Rattle.std.specs.Prelude.{Option, None, Some}
 use Rattle.rules.proofs.Choices.{by-test₂}
 use Rattle.rules.specs.Conditions.{meets, equal, below, Test}
-use Rattle.rules.specs.Looks.{refuses, look_at, sees}
+use Rattle.rules.specs.Looks.{sees}
 use Rattle.rules.specs.Records.{Rec}
 use Rattle.rules.specs.Refusals.{on_queue}
 use Rattle.rules.specs.Runs.{front_run, back_run}
@@ -21,9 +20,6 @@ use Rattle.rules.specs.Search.{found_at, spot_of, spot_in, place_in, point_of, p
 use Rattle.rules.specs.Choices.{whether}
 use Rattle.runs.proofs.Asks.{asks_seen}
 use Rattle.search.specs.Handed.{begins, handed_run, counted_from}
-use Rattle.queue.specs.declared.refusals.Refusal.{Refusal}
-use Rattle.queue.specs.declared.refusals.Checked.{Checked}
-use Rattle.queue.specs.declared.refusals.Checked.TheVariants.{Refused as Failed}
 
 -- a choice of both arguments is a choice of the result
 choose : {A B C : Type 0} (g : A → B → C) (t : Bool) (a a' : A) (b b' : B)
@@ -78,35 +74,27 @@ pub point_handed : (f : ℕ → Bool) (front back run : List ℕ) (off low : ℕ
     → off ≡ counted_from f front back → low ≡ place_in f run → off + low ≡ point_of f front back
 point_handed f front back run off low at-run at_off ends = rw (ends, at-run, at_off) (point_run f front back)
 
+-- the element at low, if there is one, is x: what `get` gave is compared with it
+pub hits : (run : List ℕ) (low : ℕ) (got : Option (Bor ℕ)) (x : Bor ℕ) → is_some got ≡ ltb low (length run)
+    → ((d : ℕ) → unwrap_or (option_map (λ v. v.now) got) d ≡ get_or run low d)
+    → option_eq (λ v w. eqb v.now w.now) got (Some x) ≡ ltb low (length run) && eqb (get_or run low 0) x.now
+hits run low None x e at = rw (← e)
+hits run low (Some v) x e at = rw (← e, ← at 0)
+
 -- within the run: the halving ends at low, counted on from off
-module _ (x : ℕ) (run : List ℕ) (off low : ℕ) (ends : low ≡ place_in (meets (below x)) run) where
-  pub spot_found : low < length run → get_or run low 0 ≡ x → found_at (off + low) ≡ spot_in x run off
+module _ (x : ℕ) (run : List ℕ) (off low : ℕ) (ends : low ≡ place_in (meets (below x)) run) (hit : Bool)
+    (is : hit ≡ ltb low (length run) && eqb (get_or run low 0) x) where
+  pub spot_found : hit ≡ true → found_at (off + low) ≡ spot_in x run off
   unfolding spot_in meets whether
-  spot_found lt e = rw (← ends, lt-ltb low (length run) lt, eq-eqb _ _ e)
+  spot_found e = rw (← ends, ← is, e)
 
-  pub spot_unlike : low < length run → get_or run low 0 ≢ x → place_at (off + low) ≡ spot_in x run off
+  pub spot_unlike : hit ≡ false → place_at (off + low) ≡ spot_in x run off
   unfolding spot_in meets whether
-  spot_unlike lt ne = rw (← ends, lt-ltb low (length run) lt, ne_eqb _ _ ne)
-
-  pub spot_past : length run ≤ low → place_at (off + low) ≡ spot_in x run off
-  unfolding spot_in meets whether
-  spot_past le = rw (← ends, le-ltb low (length run) le)
+  spot_unlike e = rw (← ends, ← is, e)
 
 -- ---- in the queue
 
--- refused by the tests of slots and record, which said t
-module _ (b : List ℕ) (r : Rec) where
-  pub search_refused : (x : ℕ) (t : Checked) → number_in t ≡ on_queue (length b) r 0 → (y : Refusal) → t ≡ Failed y
-      → refuses (number_of y) ≡ search_for b r x
-  unfolding search_for look_at
-  search_refused x = look_first b r (λ l. spot_of x (front_run b r 0 r.len) (back_run b r 0 r.len))
-
-  pub partition_refused : (u : Test) (t : Checked) → number_in t ≡ on_queue (length b) r 0 → (y : Refusal) → t ≡ Failed y
-      → refuses (number_of y) ≡ partition_by b r u
-  unfolding partition_by look_at
-  partition_refused u = look_first b r (λ l. point_of (meets u) (front_run b r 0 r.len) (back_run b r 0 r.len))
-
--- past them: front and back are its runs
+-- past the tests of slots and record: front and back are its runs
 module _ (b : List ℕ) (r : Rec) (first : on_queue (length b) r 0 ≡ 0) (front back : List ℕ)
     (at_front : front ≡ front_run b r 0 r.len) (at_back : back ≡ back_run b r 0 r.len) where
   pub spot_seen : (x : ℕ) → sees (spot_of x front back) ≡ search_for b r x

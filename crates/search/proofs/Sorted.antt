@@ -58,7 +58,8 @@ module _ (b : List ℕ) (r : Rec) where
       rw k.1 (rw (runs-held b r k.0) at (spot-says x (front_run b r 0 r.len) (back_run b r 0 r.len)))
 
   -- A FOUND POSITION HOLDS X, in any list
-  pub found_holds : (x p : ℕ) → search_for b r x ≡ sees (found_at p) → (p < length (held b r)) × (get_or (held b r) p 0 ≡ x)
+  pub found_holds : (x p : ℕ) → search_for b r x ≡ sees (found_at p)
+      → (p < length (held b r)) × (get_or (held b r) p 0 ≡ x)
   unfolding Says
   found_holds x p q = said x (found_at p) q
 

@@ -30,7 +30,8 @@ module _ (f : ℕ → Bool) (s : List ℕ) where
     goes_up lt is-less (zero, enough, e) = absurd (omega arith)
     goes_up lt is-less (suc k, enough, e) = (k, omega arith, rw (lt-ltb low high lt, is-less) at e)
 
-    pub goes_down : low < high → f (get_or s (middle low high) 0) ≡ false → Halves low high → Halves low (middle low high)
+    pub goes_down : low < high → f (get_or s (middle low high) 0) ≡ false → Halves low high
+        → Halves low (middle low high)
     unfolding halving whether
     goes_down lt not-less (zero, enough, e) = absurd (omega arith)
     goes_down lt not-less (suc k, enough, e) = (k, omega arith, rw (lt-ltb low high lt, not-less) at e)

@@ -8,6 +8,5 @@ mod statuses; // statuses.rt: the status that a program leaves
 mod telling; // telling.rt: what a program says on standard error
 mod waiting; // waiting.rt: a little time between two tries
 
-pub use moving::Got;
-pub use statuses::{Status, leave};
-pub use telling::{read_input, say, say_number, write_output};
+pub use statuses::{Failure, leave};
+pub use telling::{read_input, say, write_output};

@@ -4,13 +4,13 @@ use crate::moving::write;
 use std::fs::OpenOptions;
 use std::rt::Env;
 
-// How a program ended.
-#[derive(Clone, Copy)]
-pub enum Status {
-    Well,
+// Why a program did not end well: its input is broken, a read failed, or a write. A read or a write that failed was
+// said on standard error.
+#[derive(Clone, Copy, Debug, PartialEq, Eq)]
+pub enum Failure {
     Broken,
-    ReadFailed,
-    WriteFailed,
+    Read,
+    Write,
 }
 
 // The descriptor that it is written to, as a file.
@@ -26,20 +26,20 @@ fn asked(rt: HostRuntime) -> bool {
 }
 
 // The digit of a status.
-fn digit(status: Status) -> u8 {
-    match status {
-        Status::Well => b'0',
-        Status::Broken => b'1',
-        Status::ReadFailed => b'3',
-        Status::WriteFailed => b'4',
+fn digit(ended: Result<(), Failure>) -> u8 {
+    match ended {
+        Ok(()) => b'0',
+        Err(Failure::Broken) => b'1',
+        Err(Failure::Read) => b'3',
+        Err(Failure::Write) => b'4',
     }
 }
 
 // Leaves the status, if it was asked for. Where descriptor 3 is a file, the digit goes behind what stands there.
-pub fn leave(rt: HostRuntime, status: Status) {
+pub fn leave(rt: HostRuntime, ended: Result<(), Failure>) {
     if asked(rt) {
         if let Ok(mut file) = OpenOptions::new().append(true).open(&rt, STATUS_FILE) {
-            write(rt, &mut file, &[digit(status)]);
+            let _ = write(rt, &mut file, &[digit(ended)]);
         }
     }
 }

@@ -1,4 +1,3 @@
 -- `Parts` and `Order` are what the crates above cite: lists laid in lent parts, and a copy in two stretches.
-mod Fronts
 pub mod Parts
 pub mod Order

@@ -10,92 +10,89 @@ ghost use Rattle.elements.specs.Answers.{of_handed};
 use elements::Handed;
 use ends::{pop_back, pop_front};
 use places::WrappedIndex;
-use queue::{Change, Checked, Deque, Refusal};
+use queue::{Change, Deque, Refusal};
 
 // Hands over what stands at `at`, and stores there what stands at `from`, which keeps its value.
 fn fill(slots: &mut [u32], at: WrappedIndex, from: WrappedIndex) -> u32
     requires { (at.0 < length slots.old) × (from.0 < length slots.old) }
-    ensures { (result ≡ get_or slots.old at.0 0)
-        × (slots.new ≡ set slots.old at.0 (get_or slots.old from.0 0)) }
+    ensures gone { result ≡ get_or slots.old at.0 0 }
+    ensures filled { slots.new ≡ set slots.old at.0 (get_or slots.old from.0 0) }
 {
-    let a = at.as_index();
-    let f = from.as_index();
-    let number = slots[a];
-    slots[a] = slots[f];
-    number
+    let coming = slots[from.as_index()];
+    std::mem::replace(&mut slots[at.as_index()], coming)
 }
 
 // Exchanges the elements at positions i and j.
-pub fn swap(slots: &mut [u32], q: Deque, i: usize, j: usize) -> Change
-    ensures { (of_change result, slots.new) ≡ told (do_rule slots.old (rec_of q) (exchange i j)) }
+pub fn swap(slots: &mut [u32], q: Deque, i: usize, j: usize) -> Result<Change<Deque>, Refusal>
+    ensures { (of_change q result, slots.new) ≡ told (do_rule slots.old (rec_of q) (exchange i j)) }
 {
     let cap = slots.len();
-    if let Checked::Refused(refusal) = queue::check_change(cap, q) {
-        return queue::refused(refusal, q);
-    }
-    if i >= q.len {
-        return queue::refused(Refusal::Position, q);
-    }
-    if j >= q.len {
-        return queue::refused(Refusal::Position, q);
+    queue::check_change(cap, q)?;
+    if i >= q.len || j >= q.len {
+        return Err(Refusal::Position);
     }
     if i == j {
-        return Change::Done { queue: q, moved: 0 };
+        return Ok(Change { after: q, moved: 0 });
     }
-    let at_i = places::wrap_add(cap, q.head, i);
-    let at_j = places::wrap_add(cap, q.head, j);
-    let number = fill(slots, at_i, at_j);
-    let p = at_j.as_index();
-    slots[p] = number;
-    Change::Done { queue: q, moved: 2 }
+    let at_i = places::wrap_add(cap, q.head, i).as_index();
+    let at_j = places::wrap_add(cap, q.head, j).as_index();
+    slots.swap(at_i, at_j);
+    Ok(Change { after: q, moved: 2 })
 }
 
 // Hands the element at position index over, and puts the first one in its place.
-pub fn swap_remove_front(slots: &mut [u32], q: Deque, index: usize) -> Handed
-    ensures { (of_handed result, slots.new) ≡ told (do_rule slots.old (rec_of q) (swap_remove_front index)) }
+pub fn swap_remove_front(
+    slots: &mut [u32],
+    q: Deque,
+    index: usize,
+) -> Result<Handed<Deque>, Refusal>
+    ensures { (of_handed q result, slots.new) ≡ told (do_rule slots.old (rec_of q) (swap_remove_front index)) }
 {
     let cap = slots.len();
-    if let Checked::Refused(refusal) = queue::check_change(cap, q) {
-        return elements::refused(refusal, q);
-    }
-    let len = q.len;
-    if index >= len {
-        return Handed::Nothing { queue: q, moved: 0 };
+    queue::check_change(cap, q)?;
+    if index >= q.len {
+        return Ok(Handed {
+            number: None,
+            after: q,
+            moved: 0,
+        });
     }
     if index == 0 {
         return pop_front(slots, q);
     }
-    let head = q.head;
-    let number = fill(slots, places::wrap_add(cap, head, index), head);
-    let next = places::wrap_add(cap, head, 1);
-    Handed::Number {
-        number,
-        queue: queue::stepped(q, next, len - 1),
+    let at = places::wrap_add(cap, q.head, index);
+    let number = fill(slots, at, q.head);
+    let next = places::wrap_add(cap, q.head, 1);
+    Ok(Handed {
+        number: Some(number),
+        after: queue::stepped(q, next, q.len - 1),
         moved: 1,
-    }
+    })
 }
 
 // Hands the element at position index over, and puts the last one in its place.
-pub fn swap_remove_back(slots: &mut [u32], q: Deque, index: usize) -> Handed
-    ensures { (of_handed result, slots.new) ≡ told (do_rule slots.old (rec_of q) (swap_remove_back index)) }
+pub fn swap_remove_back(slots: &mut [u32], q: Deque, index: usize) -> Result<Handed<Deque>, Refusal>
+    ensures { (of_handed q result, slots.new) ≡ told (do_rule slots.old (rec_of q) (swap_remove_back index)) }
 {
     let cap = slots.len();
-    if let Checked::Refused(refusal) = queue::check_change(cap, q) {
-        return elements::refused(refusal, q);
-    }
+    queue::check_change(cap, q)?;
     let len = q.len;
     if index >= len {
-        return Handed::Nothing { queue: q, moved: 0 };
+        return Ok(Handed {
+            number: None,
+            after: q,
+            moved: 0,
+        });
     }
     if index == len - 1 {
         return pop_back(slots, q);
     }
-    let head = q.head;
-    let last = places::wrap_add(cap, head, len - 1);
-    let number = fill(slots, places::wrap_add(cap, head, index), last);
-    Handed::Number {
-        number,
-        queue: queue::stepped(q, head, len - 1),
+    let at = places::wrap_add(cap, q.head, index);
+    let last = places::wrap_add(cap, q.head, len - 1);
+    let number = fill(slots, at, last);
+    Ok(Handed {
+        number: Some(number),
+        after: queue::stepped(q, q.head, len - 1),
         moved: 1,
-    }
+    })
 }

@@ -2,6 +2,6 @@
 #![tactic(auto)]
 
 fn main(rt: HostRuntime) {
-    let status = trial_run::play_script(rt);
-    streams::leave(rt, status);
+    let ended = trial_run::play_script(rt);
+    streams::leave(rt, ended);
 }

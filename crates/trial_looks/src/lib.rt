@@ -1,10 +1,9 @@
-// The calls of a script that only look at a queue or walk over it, and what is kept of the two queues.
+// A script's queue: what is kept of it and shown, the looks that no sequence of calls has, and its walk.
 #![tactic(auto)]
 
+mod keeping; // keeping.rt: what is kept of a queue
 mod looks; // looks.rt: the calls that only look
-pub mod operands; // operands.rt: the words of a line
-pub mod state; // state.rt: what is kept of the two queues
-mod steps; // steps.rt: the walks
+mod shown; // shown.rt: a queue as text
+mod walking; // walking.rt: the calls of its walk
 
-pub use looks::{compare, look_at};
-pub use steps::walk;
+pub use keeping::{Kept, Queues};

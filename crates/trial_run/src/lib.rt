@@ -3,15 +3,33 @@
 #![tactic(auto)]
 
 mod play; // play.rt: a script, line by line
-mod show; // show.rt: the lines of output
 
-use streams::Status;
+use play::play;
+use streams::{Failure, say};
+use trial_text::{Input, Output};
 
-// Plays the script of standard input, on the slots of A and B, and with a buffer for the input and one for the output.
-pub fn play_script(rt: HostRuntime) -> Status {
-    let mut a_slots = [0u32; 16002];
-    let mut b_slots = [0u32; 16002];
-    let mut buf = [0u8; 65536];
-    let mut out = [0u8; 65536];
-    play::run(rt, &mut buf, &mut a_slots, &mut b_slots, &mut out)
+// The most slots of A and of B.
+const SLOTS: usize = 16002;
+
+// Plays the script of standard input. A broken line is said, and has a line of output.
+pub fn play_script(rt: HostRuntime) -> Result<(), Failure> {
+    let mut a_slots = [0u32; SLOTS];
+    let mut b_slots = [0u32; SLOTS];
+    let mut input = Input::new(rt);
+    let mut out = Output::new(rt);
+    let played = play(&mut input, &mut a_slots, &mut b_slots, &mut out);
+    match played {
+        Ok(()) | Err(Failure::Read) => {}
+        Err(Failure::Broken) => {
+            let line = input.line();
+            say(
+                rt,
+                format_args!("trial: line {line} is broken: nothing behind it was played\n"),
+            );
+            out.put(format_args!("broken line {line}\n"))?;
+        }
+        Err(Failure::Write) => return played,
+    }
+    out.flush()?;
+    played
 }

@@ -1,98 +1,100 @@
-// Standard input, one line at a time. It is read in pieces through a buffer, so a script may have any length.
-use streams::Got;
+// Standard input, one line at a time. It is read in pieces, so a script may have any length.
+ghost use Rattle.std.specs.Prelude.{◌≡◌, ◌+◌, ◌<◌, ◌≤◌, IfOk, Ok, Some, slice_index};
 
-// How much of the piece in the buffer was used, and how many bytes it has.
-#[derive(Clone, Copy)]
-pub struct Piece {
-    pub used: usize,
-    pub end: usize,
+use crate::numbers::numbers;
+use std::ops::Range;
+use streams::Failure;
+
+// The most bytes of a piece.
+const SIZE: usize = 65536;
+
+// One byte more than a line may have.
+const LINE: usize = 4001;
+
+// The piece that was read last, which of its bytes are still to be given, and the number of the line that they are in.
+#[derive(Drop)]
+pub struct Input {
+    rt: HostRuntime,
+    piece: [u8; SIZE],
+    left: Range<usize>,
+    line: u64,
+    ghost within: { left.end ≤ 65536 },
 }
 
-// The next byte of the input, with the piece behind it. A read that failed was said.
-#[derive(Clone, Copy)]
-pub enum Byte {
-    Read { byte: u8, piece: Piece },
-    End,
-    Failed,
-}
-
-// The next line of the input, its bytes counted without the newline.
-#[derive(Clone, Copy)]
-pub enum Line {
-    Whole { len: usize, piece: Piece },
-    TooLong,
-    End,
-    Failed,
-}
-
-// Before anything was read.
-pub fn nothing_read() -> Piece {
-    Piece { used: 0, end: 0 }
-}
-
-// Takes the first byte of a piece of that many bytes.
-fn first_of_piece(buf: &[u8], end: usize) -> Byte {
-    if 0 < buf.len() {
-        return Byte::Read {
-            byte: buf[0],
-            piece: Piece { used: 1, end },
-        };
-    }
-    Byte::End
-}
-
-// Reads the next piece, and takes its first byte.
-fn next_piece(rt: HostRuntime, buf: &mut [u8]) -> Byte {
-    match streams::read_input(rt, b"trial", buf) {
-        Got::Bytes(end) => first_of_piece(buf, end),
-        Got::End => Byte::End,
-        Got::Failed(_) => Byte::Failed,
-    }
-}
-
-// Takes the next byte.
-fn next_byte(rt: HostRuntime, buf: &mut [u8], piece: Piece) -> Byte {
-    let used = piece.used;
-    let end = piece.end;
-    if used < end {
-        if used < buf.len() {
-            return Byte::Read {
-                byte: buf[used],
-                piece: Piece {
-                    used: used + 1,
-                    end,
-                },
-            };
+impl Input {
+    // Before anything was read.
+    pub fn new(rt: HostRuntime) -> Input {
+        Input {
+            rt,
+            piece: [0; SIZE],
+            left: 0..0,
+            line: 0,
         }
     }
-    next_piece(rt, buf)
-}
 
-// What stands behind the last newline: a line, unless it is empty.
-fn last_line(len: usize, piece: Piece) -> Line {
-    if 0 < len {
-        return Line::Whole { len, piece };
+    // The number of the line that was asked for last, counted from 1.
+    pub fn line(&self) -> u64 {
+        self.line
     }
-    Line::End
-}
 
-// Reads a line into the front of `line`; one that fills it is too long. The last line may lack its newline.
-pub fn next_line(rt: HostRuntime, buf: &mut [u8], piece: Piece, line: &mut [u8]) -> Line {
-    let mut now = piece;
-    let mut len: usize = 0;
-    while len < line.len() {
-        match next_byte(rt, buf, now) {
-            Byte::Read { byte, piece } => {
-                if byte == b'\n' {
-                    return Line::Whole { len, piece };
-                }
-                line[len] = byte;
-                len += 1;
-                now = piece;
+    // Reads the next piece, and gives its length: 0 where the input is at its end.
+    fn read_piece(&mut self) -> Result<usize, Failure>
+        ensures { IfOk result (λ len. len ≤ 65536) }
+    {
+        streams::read_input(self.rt, "trial", &mut self.piece)
+    }
+
+    // The next byte, unless the input is at its end.
+    fn next_byte(&mut self) -> Result<Option<u8>, Failure>
+        ensures first { self.old.left.start < self.old.left.end
+            → result ≡ Ok (Some (slice_index self.old.piece self.old.left.start)) }
+        ensures rest { self.old.left.start < self.old.left.end
+            → (self.new.left.start ≡ self.old.left.start + 1) × (self.new.left.end ≡ self.old.left.end)
+            × (self.new.piece ≡ self.old.piece) }
+    {
+        if self.left.is_empty() {
+            self.left = 0..self.read_piece()?;
+        }
+        Ok(self.left.next().map(|at| self.piece[at]))
+    }
+
+    // Reads a line into the front of the room for it, without its newline; one that fills the room is broken. The last
+    // line may lack its newline.
+    fn next_line<'l>(&mut self, room: &'l mut [u8]) -> Result<Option<&'l [u8]>, Failure> {
+        self.line = self.line.saturating_add(1);
+        for len in 0..room.len() {
+            match self.next_byte()? {
+                Some(b'\n') => return Ok(Some(&room[..len])),
+                Some(byte) => room[len] = byte,
+                None if len == 0 => return Ok(None),
+                None => return Ok(Some(&room[..len])),
             }
-            Byte::End => return last_line(len, now),
-            Byte::Failed => return Line::Failed,
+        }
+        Err(Failure::Broken)
+    }
+
+    // The numbers of the next line, in the front of the room for them.
+    pub fn next_numbers<'n>(
+        &mut self,
+        room: &'n mut [usize],
+    ) -> Result<Option<&'n [usize]>, Failure> {
+        let mut line = [0u8; LINE];
+        let Some(line) = self.next_line(&mut line)? else {
+            return Ok(None);
+        };
+        numbers(line, room).map(Some).ok_or(Failure::Broken)
+    }
+
+    // The two capacities of a script's first line, behind `T` and a space.
+    pub fn capacities(&mut self) -> Result<Option<(usize, usize)>, Failure> {
+        let mut line = [0u8; LINE];
+        let Some(line) = self.next_line(&mut line)? else {
+            return Ok(None);
+        };
+        let words = line.strip_prefix(b"T ").ok_or(Failure::Broken)?;
+        match numbers(words, &mut [0; 2]) {
+            Some([a, b]) => Ok(Some((*a, *b))),
+            _ => Err(Failure::Broken),
         }
     }
-    Line::TooLong
 }

@@ -1,81 +1,76 @@
-// What the program writes goes through a buffer, which is written out when it is full and at the end. `at` is the
-// number of bytes that it holds, and each function answers the number that it then holds. A write that fails is said;
-// from then on `at` is past the buffer's end, and nothing is put or written any more.
+// Standard output, through a buffer.
+ghost use Rattle.std.specs.Prelude.{◌≡◌, ℕ, ◌≤◌, ◌⊎◌, List, [], ◌∷◌, ◌++◌, length, take, OnOk};
 
-// Writes out what the buffer holds, and answers whether it is written.
-pub fn flush(rt: HostRuntime, out: &[u8], at: usize) -> bool {
-    if at <= out.len() {
-        return streams::write_output(rt, b"trial", &out[0..at]);
-    }
-    false
+use std::fmt;
+use std::fmt::Write;
+use std::marker::Model;
+use streams::Failure;
+
+// The most bytes that the buffer holds.
+const SIZE: usize = 65536;
+
+// What is put stands in the front of the buffer, which is written out when it is full and more is to come, and at the
+// end. A write that fails was said, and nothing is to be put behind it.
+#[derive(Drop)]
+pub struct Output {
+    rt: HostRuntime,
+    buffer: [u8; SIZE],
+    held: usize,
 }
 
-// Whether a write failed.
-pub fn has_failed(out: &[u8], at: usize) -> bool {
-    out.len() < at
+impl Model for Output {
+    // the bytes that are put and not written out yet
+    ghost Value = { List ℕ };
+
+    ghost view = { λ o. take o.held o.buffer };
+
+    ghost invariant = { λ o. o.held ≤ 65536 };
 }
 
-// Puts a byte.
-pub fn put_byte(rt: HostRuntime, out: &mut [u8], at: usize, byte: u8) -> usize {
-    if at < out.len() {
-        out[at] = byte;
-        return at + 1;
-    }
-    if flush(rt, out, at) {
-        if 0 < out.len() {
-            out[0] = byte;
-            return 1;
+impl Output {
+    // With nothing put.
+    pub fn new(rt: HostRuntime) -> Output
+        ensures { result ≡ [] }
+    {
+        Output {
+            rt,
+            buffer: [0; SIZE],
+            held: 0,
         }
     }
-    usize::MAX
-}
 
-// Puts every byte of a text.
-pub fn put_text(rt: HostRuntime, out: &mut [u8], at: usize, text: &[u8]) -> usize {
-    let mut now = at;
-    for i in 0..text.len() {
-        now = put_byte(rt, out, now, text[i]);
+    // Puts a text.
+    pub fn put<T: fmt::Display + Drop>(&mut self, text: T) -> Result<(), Failure> {
+        write!(self, "{text}").map_err(|_| Failure::Write)
     }
-    now
-}
 
-// Puts a number's decimal digits.
-pub fn put_number(rt: HostRuntime, out: &mut [u8], at: usize, number: usize) -> usize {
-    let mut digits = [0u8; 20];
-    let count = io::decimal(number as u64, &mut digits);
-    put_text(rt, out, at, &digits[..count])
-}
-
-// Puts a number after a space.
-pub fn put_spaced(rt: HostRuntime, out: &mut [u8], at: usize, number: usize) -> usize {
-    let now = put_byte(rt, out, at, b' ');
-    put_number(rt, out, now, number)
-}
-
-// A slot's value as a number.
-fn wide(value: u32) -> usize {
-    value as usize
-}
-
-// Puts every slot's value, each after a space.
-pub fn put_slots(rt: HostRuntime, out: &mut [u8], at: usize, slots: &[u32]) -> usize {
-    let mut now = at;
-    for i in 0..slots.len() {
-        now = put_spaced(rt, out, now, wide(slots[i]));
+    // Writes out what the buffer holds.
+    pub fn flush(&mut self) -> Result<(), Failure>
+        ensures { OnOk result (self.new ≡ []) }
+    {
+        streams::write_output(self.rt, "trial", &self.buffer[..self.held])?;
+        self.held = 0;
+        Ok(())
     }
-    now
-}
 
-// A byte's value as a number.
-fn wide_byte(value: u8) -> usize {
-    value as usize
-}
-
-// Puts every byte's value, each after a space.
-pub fn put_values(rt: HostRuntime, out: &mut [u8], at: usize, bytes: &[u8]) -> usize {
-    let mut now = at;
-    for i in 0..bytes.len() {
-        now = put_spaced(rt, out, now, wide_byte(bytes[i]));
+    // Puts a byte.
+    fn put_byte(&mut self, byte: u8) -> Result<(), Failure>
+        ensures { OnOk result ((self.new ≡ self.old ++ byte ∷ []) ⊎ (self.new ≡ byte ∷ [])) }
+    {
+        if self.held == SIZE {
+            self.flush()?;
+        }
+        self.buffer[self.held] = byte;
+        self.held += 1;
+        Ok(())
     }
-    now
+}
+
+impl Write for Output {
+    fn write_str(&mut self, text: &str) -> fmt::Result {
+        for byte in text.bytes() {
+            self.put_byte(byte).map_err(|_| fmt::Error)?;
+        }
+        Ok(())
+    }
 }

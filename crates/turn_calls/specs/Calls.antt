@@ -1,5 +1,4 @@
 -- The calls of the code, in the terms of the rules. Assumes nothing.
-use Rattle.std.specs.Prelude.{List, ℕ}
 use Rattle.conditions.specs.Tests.{test_of}
 use Rattle.rules.specs.Asks as asks
 use Rattle.rules.specs.Calls.{push_back!, push_front!, pop_front!, pop_back!, pop_front_if!, pop_back_if!, truncate!, truncate_front!, clear!, extend!, prepend!, extend_front!, resize!, insert!, remove!, swap!, swap_remove_front!, swap_remove_back!, retain!, splice!, Op}
@@ -40,11 +39,11 @@ edit_of (Swap i j) = swap! i j
 edit_of (Retain t) = retain! (test_of t)
 
 -- a call with the values vs
-abbrev pub join_of : Join → List ℕ → Op
-join_of Extend vs = extend! vs
-join_of Prepend vs = prepend! vs
-join_of ExtendFront vs = extend_front! vs
-join_of (Splice s e) vs = splice! s e vs
+abbrev pub join_of : Join → Op
+join_of (Extend vs) = extend! vs.now
+join_of (Prepend vs) = prepend! vs.now
+join_of (ExtendFront vs) = extend_front! vs.now
+join_of (Splice s e vs) = splice! s e vs.now
 
 -- a call that hands an element over
 abbrev pub removal_of : Removal → Op
@@ -56,14 +55,14 @@ removal_of (Remove i) = remove! i
 removal_of (SwapRemoveFront i) = swap_remove_front! i
 removal_of (SwapRemoveBack i) = swap_remove_back! i
 
--- a change of a queue, to which the values vs and the bytes bs are lent
-abbrev pub change_of : QueueChange → List ℕ → List ℕ → rules.QueueChange
-change_of (Editing k) vs bs = rules.op (edit_of k)
-change_of (Joining k) vs bs = rules.op (join_of k vs)
-change_of (Removing k) vs bs = rules.op (removal_of k)
-change_of Fresh vs bs = rules.freshly
-change_of ReadImage vs bs = rules.reading bs
-change_of (Drain s e) vs bs = rules.opening s e
+-- a change of a queue
+abbrev pub change_of : QueueChange → rules.QueueChange
+change_of (Editing k) = rules.op (edit_of k)
+change_of (Joining k) = rules.op (join_of k)
+change_of (Removing k) = rules.op (removal_of k)
+change_of Fresh = rules.freshly
+change_of (ReadImage bs) = rules.reading bs.now
+change_of (Drain s e) = rules.opening s e
 
 -- a look at it
 abbrev pub ask_of : Ask → asks.Ask
@@ -76,9 +75,9 @@ ask_of (BinarySearch x) = asks.binary_search? x
 ask_of (PartitionPoint t) = asks.partition_point? (test_of t)
 
 -- a call on a queue
-abbrev pub queue_call_of : QueueCall → List ℕ → List ℕ → rules.QueueCall
-queue_call_of (Changing k) vs bs = rules.changing (change_of k vs bs)
-queue_call_of (Asking a) vs bs = rules.asking (ask_of a)
+abbrev pub queue_call_of : QueueCall → rules.QueueCall
+queue_call_of (Changing k) = rules.changing (change_of k)
+queue_call_of (Asking a) = rules.asking (ask_of a)
 
 -- a call of an open drain
 abbrev pub drain_call_of : DrainCall → rules.DrainCall
@@ -100,15 +99,15 @@ pair_call_of (MovePortion n) = rules.porting n
 pair_call_of (Comparing a) = rules.comparing (ask_both_of a)
 
 -- any
-abbrev pub call_of : Call → List ℕ → List ℕ → rules.Call
-call_of (OfQueue k) vs bs = rules.of_queue (queue_call_of k vs bs)
-call_of (OfDrain k) vs bs = rules.of_drain (drain_call_of k)
-call_of (OfBoth k) vs bs = rules.of_both (pair_call_of k)
+abbrev pub call_of : Call → rules.Call
+call_of (OfQueue k) = rules.of_queue (queue_call_of k)
+call_of (OfDrain k) = rules.of_drain (drain_call_of k)
+call_of (OfBoth k) = rules.of_both (pair_call_of k)
 
 abbrev pub side_of : Side → rules.Side
 side_of A = rules.side_a
 side_of B = rules.side_b
 
 -- a call, and the queue that it is made on
-abbrev pub turn_of : Side → Call → List ℕ → List ℕ → rules.Turn
-turn_of d k vs bs = record { side = side_of d; call = call_of k vs bs }
+abbrev pub turn_of : Side → Call → rules.Turn
+turn_of d k = record { side = side_of d; call = call_of k }

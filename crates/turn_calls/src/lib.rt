@@ -1,5 +1,7 @@
 // The calls of a sequence, as values: in groups by what they are made on, as in the rules, and within these by what
 // they answer.
+// Stays: values that are matched on and no closures, since the rules, the contract of `turns::turn` and its theorems
+// name the calls.
 #![tactic(auto)]
 
 use conditions::Test;
@@ -20,11 +22,11 @@ pub enum Edit {
 
 // Calls that take the values that are lent with them.
 #[derive(Clone, Copy)]
-pub enum Join {
-    Extend,
-    Prepend,
-    ExtendFront,
-    Splice(usize, usize),
+pub enum Join<'a> {
+    Extend(&'a [u32]),
+    Prepend(&'a [u32]),
+    ExtendFront(&'a [u32]),
+    Splice(usize, usize, &'a [u32]),
 }
 
 // Calls that hand an element over.
@@ -41,12 +43,12 @@ pub enum Removal {
 
 // The calls that can change a queue of which no drain is open. `ReadImage` takes the bytes that are lent with it.
 #[derive(Clone, Copy)]
-pub enum QueueChange {
+pub enum QueueChange<'a> {
     Editing(Edit),
-    Joining(Join),
+    Joining(Join<'a>),
     Removing(Removal),
     Fresh,
-    ReadImage,
+    ReadImage(&'a [u8]),
     Drain(usize, usize),
 }
 
@@ -65,8 +67,8 @@ pub enum Ask {
 
 // Both.
 #[derive(Clone, Copy)]
-pub enum QueueCall {
-    Changing(QueueChange),
+pub enum QueueCall<'a> {
+    Changing(QueueChange<'a>),
     Asking(Ask),
 }
 
@@ -85,8 +87,8 @@ pub enum AskBoth {
     Cmp,
 }
 
-// The calls on two queues of which no drain is open: `Append` takes the other queue's elements, `SplitOff` and `MoveAll`
-// fill the other's slots, `MovePortion` passes elements on to the other.
+// The calls on two queues of which no drain is open: `Append` takes the other queue's elements, `SplitOff` and
+// `MoveAll` fill the other's slots, `MovePortion` passes elements on to the other.
 #[derive(Clone, Copy)]
 pub enum PairCall {
     Append,
@@ -98,8 +100,8 @@ pub enum PairCall {
 
 // A call on a queue, of its drain, or on both.
 #[derive(Clone, Copy)]
-pub enum Call {
-    OfQueue(QueueCall),
+pub enum Call<'a> {
+    OfQueue(QueueCall<'a>),
     OfDrain(DrainCall),
     OfBoth(PairCall),
 }

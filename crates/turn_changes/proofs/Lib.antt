@@ -1,2 +1,2 @@
 -- What the functions' proofs cite.
-pub mod Known
+pub mod Makes

@@ -12,14 +12,15 @@ ghost use Rattle.elements.specs.Answers.{of_handed};
 ghost use Rattle.answers.specs.Answers.{of_answer};
 ghost use Rattle.turn_calls.specs.Calls.{change_of, drain_call_of, edit_of, join_of, removal_of};
 
-use answers::{Answer, of_change, of_closed, of_drawn, of_handed, of_made, of_opened};
+use answers::{Answer, of_change, of_handed};
 use elements::Handed;
-use queue::{Change, Deque, Drain, State};
+use queue::{Change, Deque, Drain, Refusal, State};
 use turn_calls::{DrainCall, Edit, Join, QueueChange, Removal};
 
 // Makes a call that hands nothing over.
-fn make_edit(slots: &mut [u32], q: Deque, edit: Edit) -> Change
-    ensures { (of_change result, slots.new) ≡ told (do_rule slots.old (rec_of q) (rule (edit_of edit))) }
+#[tactic(auto, unfolding(rules::specs::Calls::rule))]
+fn make_edit(slots: &mut [u32], q: Deque, edit: Edit) -> Result<Change<Deque>, Refusal>
+    ensures { (of_change q result, slots.new) ≡ told (do_rule slots.old (rec_of q) (rule (edit_of edit))) }
 {
     match edit {
         Edit::PushBack(v) => ends::push_back(slots, q, v),
@@ -35,21 +36,23 @@ fn make_edit(slots: &mut [u32], q: Deque, edit: Edit) -> Change
 }
 
 // Makes a call with the values that are lent.
-fn make_join(slots: &mut [u32], q: Deque, join: Join, values: &[u32]) -> Change
-    ensures { (of_change result, slots.new)
-        ≡ told (do_rule slots.old (rec_of q) (rule (join_of join values.now))) }
+#[tactic(auto, unfolding(rules::specs::Calls::rule))]
+fn make_join(slots: &mut [u32], q: Deque, join: Join) -> Result<Change<Deque>, Refusal>
+    ensures { (of_change q result, slots.new)
+        ≡ told (do_rule slots.old (rec_of q) (rule (join_of join.entry))) }
 {
     match join {
-        Join::Extend => extends::extend(slots, q, values),
-        Join::Prepend => extends::prepend(slots, q, values),
-        Join::ExtendFront => extends::extend_front(slots, q, values),
-        Join::Splice(start, end) => splices::splice(slots, q, start, end, values),
+        Join::Extend(values) => extends::extend(slots, q, values),
+        Join::Prepend(values) => extends::prepend(slots, q, values),
+        Join::ExtendFront(values) => extends::extend_front(slots, q, values),
+        Join::Splice(start, end, values) => splices::splice(slots, q, start, end, values),
     }
 }
 
 // Makes a call that hands an element over.
-fn make_removal(slots: &mut [u32], q: Deque, removal: Removal) -> Handed
-    ensures { (of_handed result, slots.new) ≡ told (do_rule slots.old (rec_of q) (rule (removal_of removal))) }
+#[tactic(auto, unfolding(rules::specs::Calls::rule))]
+fn make_removal(slots: &mut [u32], q: Deque, removal: Removal) -> Result<Handed<Deque>, Refusal>
+    ensures { (of_handed q result, slots.new) ≡ told (do_rule slots.old (rec_of q) (rule (removal_of removal))) }
 {
     match removal {
         Removal::PopFront => ends::pop_front(slots, q),
@@ -63,33 +66,30 @@ fn make_removal(slots: &mut [u32], q: Deque, removal: Removal) -> Handed
 }
 
 // Makes a call that can change a queue.
-pub fn change(
-    slots: &mut [u32],
-    q: Deque,
-    call: QueueChange,
-    values: &[u32],
-    bytes: &[u8],
-) -> Answer
-    ensures { (of_answer result, slots.new)
-        ≡ told (do_on_queue slots.old (rec_of q) (change_of call values.now bytes.now)) }
+#[tactic(auto, unfolding(rules::specs::Sequences::do_on_queue))]
+pub fn change(slots: &mut [u32], q: Deque, call: QueueChange) -> Answer
+    ensures { (of_answer result, slots.new) ≡ told (do_on_queue slots.old (rec_of q) (change_of call.entry)) }
 {
+    let before = State::Shut(q);
     match call {
-        QueueChange::Editing(one) => of_change(make_edit(slots, q, one)),
-        QueueChange::Joining(one) => of_change(make_join(slots, q, one, values)),
-        QueueChange::Removing(one) => of_handed(make_removal(slots, q, one)),
-        QueueChange::Fresh => of_made(State::Shut(q), elements::fresh(slots)),
-        QueueChange::ReadImage => of_made(State::Shut(q), images::read_image(slots, bytes)),
-        QueueChange::Drain(start, end) => of_opened(drains::drain(slots, q, start, end)),
+        QueueChange::Editing(one) => of_change(before, make_edit(slots, q, one)),
+        QueueChange::Joining(one) => of_change(before, make_join(slots, q, one)),
+        QueueChange::Removing(one) => of_handed(before, make_removal(slots, q, one)),
+        QueueChange::Fresh => of_change(before, elements::fresh(slots)),
+        QueueChange::ReadImage(bytes) => of_change(before, images::read_image(slots, bytes)),
+        QueueChange::Drain(start, end) => of_change(before, drains::drain(slots, q, start, end)),
     }
 }
 
 // Makes a call of an open drain.
+#[tactic(auto, unfolding(rules::specs::Sequences::do_on_drain))]
 pub fn drain_call(slots: &mut [u32], d: Drain, call: DrainCall) -> Answer
     ensures { (of_answer result, slots.new) ≡ told (do_on_drain slots.old (drain_of d) (drain_call_of call)) }
 {
+    let before = State::Draining(d);
     match call {
-        DrainCall::Next => of_drawn(drains::drain_next(slots, d)),
-        DrainCall::NextBack => of_drawn(drains::drain_next_back(slots, d)),
-        DrainCall::Close => of_closed(drains::drain_close(slots, d)),
+        DrainCall::Next => of_handed(before, drains::drain_next(slots, d)),
+        DrainCall::NextBack => of_handed(before, drains::drain_next_back(slots, d)),
+        DrainCall::Close => of_change(before, drains::drain_close(slots, d)),
     }
 }

@@ -1,26 +1,20 @@
--- A look of which it is known which it is, and what it answered, is told as the rules say. Assumes nothing.
-use mathlib.Core.List.{List}
-use mathlib.Core.Option.{Option}
-use mathlib.Core.Path.{◌≡◌, sym, ◌∙◌, ap}
-use Prim.Native.Nat.{ℕ}
-use Rattle.rules.specs.Asks.{Sight, answered, answered_both}
-use Rattle.rules.specs.Looks.{Look, seen_as}
-use Rattle.rules.specs.Records.{Rec}
-use Rattle.turn_calls.specs.Calls.{ask_of, ask_both_of}
-use Rattle.turn_calls.specs.declared.Ask.{Ask}
-use Rattle.turn_calls.specs.declared.AskBoth.{AskBoth}
-use Rattle.answers.specs.Sights.{look_told}
+-- What a look answered is told as the rules say. Assumes nothing.
+use mathlib.Core.Path.{◌≡◌, ◌∙◌, ap}
+use Rattle.std.specs.Prelude.{Result, Ok, Err, MatchResult, IsOkAnd}
+use Rattle.answers.specs.Sights.{of_sight}
+use Rattle.queue.specs.Looks.{look_of}
+use Rattle.rules.specs.Asks.{Sight}
+use Rattle.rules.specs.Looks.{Look, sees, seen_as}
+use Rattle.answers.specs.declared.sights.Sight.{Sight as Seen}
+use Rattle.queue.specs.declared.refusals.Refusal.{Refusal}
 
--- p tells what the answer l saw, and l is what the rules give
-module _ {B : Type 0} (f : B → Sight) (p : ℕ × Option Sight) (l m : Look B) (t : p ≡ look_told (seen_as f l)) (e : l ≡ m)
-  where
-    told_by : {X : Type 0} (g : X → Look Sight) (x k : X) → x ≡ k → seen_as f m ≡ g k → p ≡ look_told (g x)
-    told_by g x k is same = t ∙ ap (λ y. look_told (seen_as f y)) e ∙ ap look_told (same ∙ ap g (sym is))
-
-    pub ask_known : (b : List ℕ) (r : Rec) (x k : Ask) → x ≡ k → seen_as f m ≡ answered b r (ask_of k)
-        → p ≡ look_told (answered b r (ask_of x))
-    ask_known b r x k is same = told_by (λ y. answered b r (ask_of y)) x k is same
-
-    pub both_known : (b : List ℕ) (r : Rec) (b' : List ℕ) (r' : Rec) (x k : AskBoth) → x ≡ k
-        → seen_as f m ≡ answered_both b r b' r' (ask_both_of k) → p ≡ look_told (answered_both b r b' r' (ask_both_of x))
-    both_known b r b' r' x k is same = told_by (λ y. answered_both b r b' r' (ask_both_of y)) x k is same
+-- the answer a, whose looks m the rules tell by g, was put into the one form: of x that was seen it is a y with P x y,
+-- which the rules tell by f
+pub told_by : {A B : Type 0} (g : A → B) (f : B → Sight) {P : A → Seen → Type 0}
+    → ((x : A) (y : Seen) → P x y → of_sight y ≡ f (g x))
+    → (a : Result A Refusal) (r : Result Seen Refusal) (m : Look B)
+    → MatchResult a (λ x. IsOkAnd r (P x)) (λ e. r ≡ Err e) → look_of g a ≡ m → look_of of_sight r ≡ seen_as f m
+unfolding seen_as
+told_by g f same (Ok x) (Ok y) m h e = ap sees (same x y h) ∙ ap (seen_as f) e
+told_by g f same (Ok x) (Err z) m h e = absurd h
+told_by g f same (Err x) r m h e = ap (look_of of_sight) h ∙ ap (seen_as f) e

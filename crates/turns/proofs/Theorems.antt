@@ -14,42 +14,40 @@ use Rattle.rules.specs.Portions.{portions, whole_move, AllAccepted, no_more, acc
 use Rattle.rules.specs.Records.{Rec, new_rec}
 use Rattle.rules.specs.Sequences.{Pair, CallStep, Side, StepAnswer, Turn, facing, pair_of, queue_of, step, told_step, start, run, times_entered, times_left}
 use Rattle.rules.specs.Standing.{standing_slots}
-use Rattle.answers.specs.Answers.{of_step_answer}
+use Rattle.answers.specs.Answers.{number_told}
 use Rattle.turn_calls.specs.Calls.{turn_of}
-use Rattle.turns.specs.Played.{Played, over, played, left_by, AllAnswered}
+use Rattle.turns.specs.Answers.{told_left}
+use Rattle.turns.specs.Played.{Played, over, played, AllAnswered}
 use Rattle.answers.specs.declared.pairs.StepAnswer.{StepAnswer as StepAnswered}
 
 -- what the contract tells of the queues
-queues-left : (c : CallStep) (r : StepAnswered) (x y : List ℕ) → (of_step_answer r, x, y) ≡ told_step c
-    → left_by r x y ≡ c.queues
-queues-left c r x y e = ap (λ (t : StepAnswer × List ℕ × List ℕ). pair_of (queue_of t.1 t.0.a)
-    (queue_of t.2 t.0.b)) e
+queues-left : (c : CallStep) (r : StepAnswered) (m : Pair) → told_left r m.a m.b ≡ told_step c → m ≡ c.queues
+queues-left c r m e = ap (λ (t : StepAnswer × List ℕ × List ℕ). pair_of (queue_of t.1 t.0.a) (queue_of t.2 t.0.b)) e
 
 -- So condition 1 holds of the code: where a call of `turn` on any queues s is
 -- refused, what it leaves is s, nothing entered, and nothing left by it.
-pub code_refused_leaves : (s : Pair) (t : Turn) (r : StepAnswered) (x y : List ℕ)
-    → (of_step_answer r, x, y) ≡ told_step (step s t)
-    → (of_step_answer r).refused ≢ 0
-    → (left_by r x y ≡ s) × ((step s t).entered ≡ []) × ((step s t).left ≡ [])
-code_refused_leaves s t r x y f ne =
+pub code_refused_leaves : (s : Pair) (t : Turn) (r : StepAnswered) (m : Pair)
+    → told_left r m.a m.b ≡ told_step (step s t) → number_told r.refused ≢ 0
+    → (m ≡ s) × ((step s t).entered ≡ []) × ((step s t).left ≡ [])
+code_refused_leaves s t r m f ne =
     let refused = ap (λ (a : StepAnswer × List ℕ × List ℕ). a.0.refused) f in
     let n = refused_leaves s t (λ z. ne (refused ∙ z)) in
-    (queues-left (step s t) r x y f ∙ n.queues, n.entered, n.left)
+    (queues-left (step s t) r m f ∙ n.queues, n.entered, n.left)
 
 -- A sequence of calls of `turn`, each given what the last left, is such a sequence of the rules.
 pub is_run : {s e : Pair} {ts : List Turn} → Played s ts e → run s ts ≡ e
 unfolding run
 is_run over = refl
-is_run (played {s} {e} {ts} d k vs bs r x y f p) =
-    ap (λ (q : Pair). run q ts) (sym (queues-left (step s (turn_of d k vs bs)) r x y f)) ∙ is_run p
+is_run (played {s} {e} {ts} d k r m f p) =
+    ap (λ (q : Pair). run q ts) (sym (queues-left (step s (turn_of d k)) r m f)) ∙ is_run p
 
 -- Where each answered that it was not refused, all are accepted.
 answered-accepted : {s e : Pair} {ts : List Turn} (p : Played s ts e) → AllAnswered p → AllAccepted s ts
 unfolding AllAnswered
 answered-accepted over a = no_more
-answered-accepted (played {s} {e} {ts} d k vs bs r x y f p) a =
+answered-accepted (played {s} {e} {ts} d k r m f p) a =
     accepting (sym (ap (λ (t : StepAnswer × List ℕ × List ℕ). t.0.refused) f) ∙ a.0)
-    (subst (λ (q : Pair). AllAccepted q ts) (queues-left (step s (turn_of d k vs bs)) r x y f)
+    (subst (λ (q : Pair). AllAccepted q ts) (queues-left (step s (turn_of d k)) r m f)
     (answered-accepted p a.1))
 
 -- So condition 3 holds of the code: from any two slot buffers p and q with two fresh queues

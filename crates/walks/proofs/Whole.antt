@@ -15,11 +15,8 @@ use Rattle.rules.specs.Records.{Rec, held}
 use Rattle.rules.specs.Refusals.{on_queue}
 use Rattle.rules.specs.Walks.{Walk, WalkStep, on_walk, whole_walk, next_step, next_back_step}
 use Rattle.walks.proofs.Steps.{End, front, back, step_at, next_at, walk_after, walkable, nothing_left, one_given}
+use Rattle.walks.specs.Lent.{ahead}
 use Rattle.queue.proofs.WalkChecks.{none_stops}
-
--- what a walk has still to give
-abbrev pub ahead : List ℕ → Walk → List ℕ
-ahead b w = take (w.high - w.low) (drop w.low (held b w.rec))
 
 module _ (b : List ℕ) (w : Walk) (z : on_walk (length b) w ≡ 0) where
   -- the element that a step gives, and what is left without it, at either end

@@ -1,2 +1,2 @@
--- A borrowing walk as the public contracts read it.
+-- A borrowing walk and its step as the public contracts read them.
 pub mod Lent

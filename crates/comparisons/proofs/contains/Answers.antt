@@ -1,21 +1,13 @@
 -- `comparisons::contains` meets its contract. Assumes nothing.
-use mathlib.Core.Path.{◌∙◌, ap}
-use Rattle.comparisons.proofs.Queues.{seen_in_runs}
-use Rattle.queue.proofs.Checks.{passed_zero}
-use Rattle.queue.proofs.Looks.{look_first}
-use Rattle.queue.specs.Answers.{rec_of}
-use Rattle.rules.specs.Looks.{sees, has}
+use mathlib.Core.Path.{◌∙◌, ap, sym}
+use Rattle.queue.proofs.Looks.{look_past, look_refused}
+use Rattle.rules.specs.Looks.{has}
 use Rattle.comparisons.proofs.contains.Goals as goal
 
-pub returns-in-Refused : goal.returns-in-Refused
-returns-in-Refused c = look_first _ _ _ _ c.check.ensures _ c.in-Refused.is
+pub returns-in_err-check : goal.returns-in_err-check
+returns-in_err-check c = look_refused _ _ _ _ _ _ c.from_residual.ensures.1 c.in_err-check.ensures.number
 
 pub returns : goal.returns
 returns c =
-    let a = c.args in
-    let first =
-    passed_zero _ _ c.check.ensures
-    c.in_default.is in
-    ap sees c.stands_in.ensures
-    ∙ seen_in_runs (has a.x) a.slots.now (rec_of a.q) first _ _ c.front_run-front.ensures.result_value
-    c.back_run-back.ensures.result_value
+    let first = sym c.in_ok-check.ensures.number in
+    look_past _ _ _ first _ (c.stands_in.ensures ∙ ap (has c.args.x) (c.whole_runs-list.ensures.list first))

@@ -47,8 +47,8 @@ module _ (b : List ℕ) (r : Rec) (first : on_change (length b) r 0 ≡ 0) where
       let g = (fine_change b r first).good in
       let h = r.head in
       let n = r.len in
-      accepts b r (truncate_front k) first refl 0 p k r' none b made (at_p ∙ sym (rw (lt-leb n k lt))) (omega arith) refl
-      refl
+      accepts b r (truncate_front k) first refl 0 p k r' none b made (at_p ∙ sym (rw (lt-leb n k lt))) (omega arith)
+      refl refl
       (rw (at_p, length_list_of) (sym
       (ap (lay b (place (length b) h (n - k))) (list_of_drop b h (omega arith) (n - k) n (omega arith) g.fits)
       ∙ lay-own b (place (length b) h (n - k)) (n - (n - k)))))

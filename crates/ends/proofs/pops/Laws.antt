@@ -1,5 +1,6 @@
 -- What the pops do: one law for each return. Assumes nothing.
-use Rattle.std.proofs.Common.{◌≡◌, ℕ, ◌-◌, ◌<◌, ◌≢◌, List, [], length, get_or, sym, refl, ap, ◌∙◌, arith, eq-eqb, ne_eqb}
+use Rattle.std.proofs.Common.{◌≡◌, ℕ, ◌-◌, ◌<◌, ◌≢◌, List, [], length}
+use Rattle.std.proofs.Common.{get_or, sym, refl, ap, ◌∙◌, arith, eq-eqb, ne_eqb}
 use mathlib.Core.Option.{none, some}
 use Rattle.queue.proofs.Checks.{fine_change}
 use Rattle.rules.proofs.Places.{place_zero}

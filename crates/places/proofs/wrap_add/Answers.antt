@@ -3,5 +3,5 @@ use Rattle.std.proofs.Common.{ap, ◌∙◌, arith}
 use Rattle.rules.specs.Places.{wrapped}
 use Rattle.places.proofs.wrap_add.Goals as goal
 
-pub returns : goal.returns
-returns c = c.wrap_index.ensures ∙ ap (wrapped c.args.cap) (omega arith)
+pub returns-clause-place : goal.returns-clause-place
+returns-clause-place c = c.wrap_index.ensures.place ∙ ap (wrapped c.args.cap) (omega arith)

@@ -1,29 +1,20 @@
--- `retains::before_first_rejected` meets its contract: one law for each return. Assumes nothing.
-use native.Mathlib.Omega.{arith}
-use Rattle.conditions.specs.Tests.{test_of}
-use Rattle.retains.proofs.Stages.{leading_straight, leading-front, leading_both, leading_upto}
-use Rattle.rules.specs.Conditions.{meets}
+-- `retains::before_first_rejected` meets its contract: the list is the front run and behind it the back run.
+-- Assumes nothing.
+use Rattle.retains.proofs.Stages.{leading_stops, leading_passes, leading_upto}
 use Rattle.retains.proofs.before_first_rejected.Goals as goal
 
-pub returns-then-len-room : goal.returns-then-len-room
-returns-then-len-room c = leading_straight _ _ _ _ _ c.as_index-h.ensures _ (omega arith)
-    c.leading_in.ensures
+pub returns-then-passed-runs-clause-value : goal.returns-then-passed-runs-clause-value
+returns-then-passed-runs-clause-value c =
+    leading_stops _ _ _ _ (c.whole_runs-runs.ensures.list c.requires) _ c.leading_in-passed.ensures.value
+    c.if-passed-runs.true
 
-pub returns-then-front-room : goal.returns-then-front-room
-returns-then-front-room c = let a = c.args in leading-front _ a.slots.now
-    a.head.0 a.len _ c.as_index-h.ensures
-    c.if-len-room.false (omega arith) _ c.leading_in-front.ensures c.if-front-room.true
+pub returns-then-passed-runs-clause-few : goal.returns-then-passed-runs-clause-few
+returns-then-passed-runs-clause-few c = leading_upto _ _ _ _ (returns-then-passed-runs-clause-value c)
 
--- the front run passed whole
-pub returns : goal.returns
-returns c =
-    let a = c.args in
-    leading_both _ a.slots.now a.head.0 a.len _
-    c.as_index-h.ensures
-    c.if-len-room.false (omega arith) _
-    c.leading_in-front.ensures _ (omega arith) c.if-front-room.false
-    c.leading_in-2.ensures
+pub returns-clause-value : goal.returns-clause-value
+returns-clause-value c =
+    leading_passes _ _ _ _ (c.whole_runs-runs.ensures.list c.requires) _ c.leading_in-passed.ensures.value
+    c.if-passed-runs.false _ c.leading_in.ensures.value
 
-pub overflow_add-result : goal.overflow_add-result
-overflow_add-result c = let a = c.args in omega
-    (arith, returns c, leading_upto (meets (test_of a.test)) a.slots.now a.head.0 a.len)
+pub returns-clause-few : goal.returns-clause-few
+returns-clause-few c = leading_upto _ _ _ _ (returns-clause-value c)

@@ -1,21 +1,14 @@
--- `retains::sift` meets its contract. The loop's invariant: those
--- kept so far stand in the front of `held`. Assumes nothing.
-use Rattle.retains.proofs.Stages.{sifted_none, sifted_kept, sifted_out, sifted_count, sifted_stored}
-use Rattle.retains.proofs.sift.Goals.{then-meets, else-meets}
+-- `retains::sift` meets its contract. Assumes nothing.
+use Rattle.std.proofs.Common.{arith, refl}
+use Rattle.retains.proofs.Stages.{sifted}
+use Rattle.rules.specs.Conditions.{those}
 use Rattle.retains.proofs.sift.Goals as goal
 
-pub loop-i-init : goal.loop-i-init
-loop-i-init c = sifted_none _ _ _
+pub loop-x-init : goal.loop-x-init
+unfolding those
+loop-x-init c = (omega arith, refl)
 
-pub loop-i-preserved : goal.loop-i-preserved
-loop-i-preserved c =
-    let s = c.loop-i.invariant in
-    let fits = c.requires in
-    let lt = c.loop-i-test.true in
-    elim c.if-meets.branch [
-      | then-meets w ↦ sifted_kept _ _ _ _ _ _ s fits lt _ c.meets.ensures _ w.if-meets.true w.kept-is
-      | else-meets w ↦ sifted_out _ _ _ _ _ _ s fits lt _ c.meets.ensures _ w.if-meets.false w.kept-is
-    ]
-
-pub returns : goal.returns
-returns c = record { value = sifted_count _ _ _ _ _ _ c.loop-i.invariant c.loop-i-test.false; held_after = sifted_stored _ _ _ _ _ _ c.loop-i.invariant c.loop-i-test.false }
+pub loop-x-preserved : goal.loop-x-preserved
+loop-x-preserved c =
+    let s = c.loop-x.invariant in
+    sifted _ _ _ _ _ s.0 c.loop-x-test.true (omega arith) s.1 _ c.meets.ensures _ c.from-kept.ensures

@@ -1,14 +1,9 @@
--- `retains::sift` meets its contract. The loop's invariant: those
--- kept so far stand in the front of `held`. Assumes nothing.
-use Prim.Native.Nat.{◌-◌}
-use lib.ListN.{length}
+-- The loop's invariant: those kept so far stand in the front of `held`. Assumes nothing.
+use Rattle.std.proofs.Common.{◌≡◌, ◌≤◌, take}
 use Rattle.conditions.specs.Tests.{test_of}
-use Rattle.retains.proofs.Stages.{Sifted}
-use Rattle.rules.specs.Conditions.{meets}
+use Rattle.rules.specs.Conditions.{meets, those}
 use Rattle.retains.proofs.sift.Given as goal
 
-abbrev pub invariant-loop-i : goal.invariant-loop-i
-invariant-loop-i l = Sifted (meets (test_of l.test)) l.part l.initial.held l.held l.kept l.i
-
-abbrev pub decreases-loop-i : goal.decreases-loop-i
-decreases-loop-i l = length l.part - l.i
+abbrev pub invariant-loop-x : goal.invariant-loop-x
+invariant-loop-x l =
+    (l.kept ≤ l.x-index) × (take l.kept l.held ≡ those (meets (test_of l.test)) (take l.x-index l.part))

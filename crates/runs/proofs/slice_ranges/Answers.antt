@@ -1,58 +1,30 @@
 -- `runs::slice_ranges` meets its contract. Assumes nothing.
-use mathlib.Core.Path.{◌∙◌}
-use Prim.Native.Nat.{◌<◌}
-use native.Mathlib.Omega.{arith}
-use lib.ListN.{length}
-use Rattle.queue.proofs.Checks.{passed_zero, failed_number, Fine, fine}
-use Rattle.queue.specs.Answers.{rec_of}
-use Rattle.rules.proofs.Places.{place-low}
-use Rattle.rules.proofs.Refusals.{range_ok}
+use mathlib.Core.Path.{◌∙◌, sym}
 use Rattle.runs.proofs.Cases.{runs_none, runs_one, runs_two}
 use Rattle.runs.proofs.SliceRanges.{range_first, range_refused, range_seen}
 use Rattle.runs.proofs.slice_ranges.Goals as goal
 
-pub returns-in-Refused : goal.returns-in-Refused
-returns-in-Refused c = range_first _ _ _ _ _ c.check.ensures _ c.in-Refused.is
+pub returns-in_err-check : goal.returns-in_err-check
+returns-in_err-check c = range_first _ _ _ _ _ _ c.from_residual.ensures.1 c.in_err-check.ensures.number
 
-pub returns-in-Refused-check_range : goal.returns-in-Refused-check_range
-returns-in-Refused-check_range c =
-    range_refused _ _ _ _ (passed_zero _ _ c.check.ensures c.in_default.is) _
-    (failed_number _ _ _ c.check_range.ensures c.in-Refused-check_range.is)
+pub returns-in_err-check_range : goal.returns-in_err-check_range
+returns-in_err-check_range c =
+    range_refused _ _ _ _ _ _ c.from_residual-in_err-check_range.ensures.1 (sym c.in_ok-check.ensures.number)
+    c.in_err-check_range.ensures.number
 
 pub returns-then-start-end : goal.returns-then-start-end
-returns-then-start-end c = range_seen _ _ _ _ (passed_zero _ _ c.check.ensures c.in_default.is) (passed_zero _ _ c.check_range.ensures c.in_default-check_range.is) _
+returns-then-start-end c =
+    range_seen _ _ _ _ (sym c.in_ok-check.ensures.number) (sym c.in_ok-check_range.ensures.number) _
     (runs_none _ _ _ _ c.if-start-end.true)
 
-pub wrap_add-at-requires : goal.wrap_add-at-requires
-wrap_add-at-requires c =
-    let k = range_ok _ _ _ _ (passed_zero _ _ c.check_range.ensures c.in_default-check_range.is) in
-    let f : Fine c.args.slots.now (rec_of c.args.q) = fine _ _ (passed_zero _ _ c.check.ensures c.in_default.is) in
-    let g = f.good in
-    omega arith
-
-pub overflow_sub-n : goal.overflow_sub-n
-overflow_sub-n c = let k = range_ok _ _ _ _ (passed_zero _ _ c.check_range.ensures c.in_default-check_range.is) in omega arith
-
-pub overflow_sub-room : goal.overflow_sub-room
-overflow_sub-room c = let k : c.as_index-w.result < length c.args.slots.now = let a = c.args in let k = range_ok _ _ _ _ (passed_zero _ _ c.check_range.ensures c.in_default-check_range.is) in let g = (fine _ _ (passed_zero _ _ c.check.ensures c.in_default.is)).good in rw (c.as_index-w.ensures ∙ c.wrap_add-at.ensures) (place-low (length a.slots.now) a.q.head.0 (omega arith) a.start (omega arith)) in omega arith
-
-pub overflow_add-stop : goal.overflow_add-stop
-overflow_add-stop c =
-    let k : c.as_index-w.result < length c.args.slots.now = let a = c.args in let k = range_ok _ _ _ _ (passed_zero _ _ c.check_range.ensures c.in_default-check_range.is) in let g = (fine _ _ (passed_zero _ _ c.check.ensures c.in_default.is)).good in rw (c.as_index-w.ensures ∙ c.wrap_add-at.ensures) (place-low (length a.slots.now) a.q.head.0 (omega arith) a.start (omega arith)) in
-    let r = range_ok _ _ _ _ (passed_zero _ _ c.check_range.ensures c.in_default-check_range.is) in
-    let g = (fine _ _ (passed_zero _ _ c.check.ensures c.in_default.is)).good in
-    omega arith
-
-pub returns-then-room-n : goal.returns-then-room-n
-returns-then-room-n c =
-    range_seen _ _ _ _ (passed_zero _ _ c.check.ensures c.in_default.is)
-    (passed_zero _ _ c.check_range.ensures c.in_default-check_range.is) _
-    (rw (c.as_index-w.ensures ∙ c.wrap_add-at.ensures) (runs_one _ _ _ _ c.if-start-end.false
-    (rw (c.as_index-w.ensures ∙ c.wrap_add-at.ensures) at c.if-room-n.true)))
+pub returns-then-n-room : goal.returns-then-n-room
+returns-then-n-room c =
+    let at = c.as_index-first.ensures ∙ c.wrap_add.ensures.place in
+    range_seen _ _ _ _ (sym c.in_ok-check.ensures.number) (sym c.in_ok-check_range.ensures.number) _
+    (rw at (runs_one _ _ _ _ c.if-start-end.false (rw at at c.if-n-room.true)))
 
 pub returns : goal.returns
 returns c =
-    range_seen _ _ _ _ (passed_zero _ _ c.check.ensures c.in_default.is)
-    (passed_zero _ _ c.check_range.ensures c.in_default-check_range.is) _
-    (rw (c.as_index-w.ensures ∙ c.wrap_add-at.ensures) (runs_two _ _ _ _ c.if-start-end.false
-    (rw (c.as_index-w.ensures ∙ c.wrap_add-at.ensures) at c.if-room-n.false)))
+    let at = c.as_index-first.ensures ∙ c.wrap_add.ensures.place in
+    range_seen _ _ _ _ (sym c.in_ok-check.ensures.number) (sym c.in_ok-check_range.ensures.number) _
+    (rw at (runs_two _ _ _ _ c.if-start-end.false (rw at at c.if-n-room.false)))

@@ -1,16 +1,17 @@
 -- `search::binary_search` meets its contract. Assumes nothing.
-use mathlib.Core.Path.{◌∙◌}
-use Rattle.queue.proofs.Checks.{passed_zero}
-use Rattle.search.proofs.Searches.{search_refused, spot_seen}
+use mathlib.Core.Path.{◌∙◌, ap, sym}
+use Rattle.runs.proofs.Asks.{asks_refused}
+use Rattle.rules.specs.Looks.{sees}
+use Rattle.rules.specs.Search.{search_for}
+use Rattle.search.proofs.Searches.{spot_seen}
 use Rattle.search.proofs.binary_search.Goals as goal
 
-pub returns-in-Refused : goal.returns-in-Refused
-returns-in-Refused c = search_refused _ _ _ _ c.check.ensures _ c.in-Refused.is
+pub returns-in_err-check : goal.returns-in_err-check
+unfolding search_for
+returns-in_err-check c = asks_refused _ _ _ _ _ c.from_residual.ensures.1 c.in_err-check.ensures.number
 
 pub returns : goal.returns
 returns c =
-    let first =
-    passed_zero _ _ c.check.ensures
-    c.in_default.is in
-    c.search_runs.ensures ∙ spot_seen _ _ first _ _ c.front_run-front.ensures.result_value
-    c.back_run-back.ensures.result_value _
+    ap sees c.search_runs.ensures
+    ∙ spot_seen _ _ (sym c.in_ok-check.ensures.number) _ _ c.whole_runs-list.ensures.front
+    c.whole_runs-list.ensures.back _

@@ -1,17 +1,17 @@
 -- `search::partition_point` meets its contract. Assumes nothing.
-use mathlib.Core.Path.{◌∙◌, ap}
-use Rattle.queue.proofs.Checks.{passed_zero}
+use mathlib.Core.Path.{◌∙◌, ap, sym}
+use Rattle.runs.proofs.Asks.{asks_refused}
 use Rattle.rules.specs.Looks.{sees}
-use Rattle.search.proofs.Searches.{partition_refused, point_seen}
+use Rattle.rules.specs.Search.{partition_by}
+use Rattle.search.proofs.Searches.{point_seen}
 use Rattle.search.proofs.partition_point.Goals as goal
 
-pub returns-in-Refused : goal.returns-in-Refused
-returns-in-Refused c = partition_refused _ _ _ _ c.check.ensures _ c.in-Refused.is
+pub returns-in_err-check : goal.returns-in_err-check
+unfolding partition_by
+returns-in_err-check c = asks_refused _ _ _ _ _ c.from_residual.ensures.1 c.in_err-check.ensures.number
 
 pub returns : goal.returns
 returns c =
-    let first =
-    passed_zero _ _ c.check.ensures
-    c.in_default.is in
-    ap sees c.point_runs.ensures ∙ point_seen _ _ first _ _ c.front_run-front.ensures.result_value
-    c.back_run-back.ensures.result_value _
+    ap sees c.point_runs.ensures
+    ∙ point_seen _ _ (sym c.in_ok-check.ensures.number) _ _ c.whole_runs-list.ensures.front
+    c.whole_runs-list.ensures.back _

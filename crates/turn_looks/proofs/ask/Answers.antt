@@ -1,47 +1,49 @@
 -- `turn_looks::ask` meets its contract. Assumes nothing.
-use mathlib.Core.Path.{refl}
+use borrow.Author.Rules.{rules}
+use Rattle.elements.specs.Answers.{given}
+use Rattle.queue.specs.Looks.{runs_of, spot_of}
 use Rattle.rules.specs.Asks.{answered, count, element, ranges, spot, truth}
-use Rattle.turn_looks.proofs.Known.{ask_known}
+use Rattle.turn_looks.proofs.Known.{told_by}
 use Rattle.turn_looks.proofs.ask.Goals as goal
 
 pub returns-in-Get : goal.returns-in-Get
 unfolding answered
 returns-in-Get c =
-    ask_known element _ _ _ c.of_found.ensures c.get.ensures _ _ _ _
-    c.in-Get.is refl
+    rw c.in-Get.is (told_by given element (λ x y h. search rules) _ _ _
+    c.map.ensures.cases c.get.ensures)
 
 pub returns-in-Front : goal.returns-in-Front
 unfolding answered
 returns-in-Front c =
-    ask_known element _ _ _ c.of_found-in-Front.ensures c.front.ensures _ _ _ _
-    c.in-Front.is refl
+    rw c.in-Front.is (told_by given element (λ x y h. search rules) _ _ _
+    c.map-in-Front.ensures.cases c.front.ensures)
 
 pub returns-in-Back : goal.returns-in-Back
 unfolding answered
 returns-in-Back c =
-    ask_known element _ _ _ c.of_found-in-Back.ensures c.back.ensures _ _ _ _
-    c.in-Back.is refl
+    rw c.in-Back.is (told_by given element (λ x y h. search rules) _ _ _
+    c.map-in-Back.ensures.cases c.back.ensures)
 
 pub returns-in-Contains : goal.returns-in-Contains
 unfolding answered
 returns-in-Contains c =
-    ask_known truth _ _ _ c.of_truth.ensures c.contains.ensures _ _ _ _
-    c.in-Contains.is refl
+    rw c.in-Contains.is (told_by (λ t. t) truth (λ x y h. search rules) _ _ _
+    c.map-in-Contains.ensures.cases c.contains.ensures)
 
 pub returns-in-SliceRanges : goal.returns-in-SliceRanges
 unfolding answered
 returns-in-SliceRanges c =
-    ask_known ranges _ _ _ c.of_ranges.ensures c.slice_ranges.ensures _ _ _ _
-    c.in-SliceRanges.is refl
+    rw c.in-SliceRanges.is (told_by runs_of ranges (λ x y h. search rules) _ _ _
+    c.map-in-SliceRanges.ensures.cases c.slice_ranges.ensures)
 
 pub returns-in-BinarySearch : goal.returns-in-BinarySearch
 unfolding answered
 returns-in-BinarySearch c =
-    ask_known spot _ _ _ c.of_searched.ensures c.binary_search.ensures _ _ _ _
-    c.in-BinarySearch.is refl
+    rw c.in-BinarySearch.is (told_by spot_of spot (λ x y h. search rules) _ _ _
+    c.map-in-BinarySearch.ensures.cases c.binary_search.ensures)
 
 pub returns-in-PartitionPoint : goal.returns-in-PartitionPoint
 unfolding answered
 returns-in-PartitionPoint c =
-    ask_known count _ _ _ c.of_point.ensures c.partition_point.ensures _ _ _ _
-    c.in-PartitionPoint.is refl
+    rw c.in-PartitionPoint.is (told_by (λ n. n) count (λ x y h. search rules) _ _ _
+    c.map-in-PartitionPoint.ensures.cases c.partition_point.ensures)

@@ -1,17 +1,18 @@
 -- `turn_looks::ask_both` meets its contract. Assumes nothing.
-use mathlib.Core.Path.{refl}
+use borrow.Author.Rules.{rules}
+use Rattle.queue.specs.Looks.{order_of}
 use Rattle.rules.specs.Asks.{answered_both, ordered, truth}
-use Rattle.turn_looks.proofs.Known.{both_known}
+use Rattle.turn_looks.proofs.Known.{told_by}
 use Rattle.turn_looks.proofs.ask_both.Goals as goal
 
 pub returns-in-Eq : goal.returns-in-Eq
 unfolding answered_both
 returns-in-Eq c =
-    both_known truth _ _ _ c.of_truth.ensures c.eq.ensures _ _ _ _ _ _
-    c.in-Eq.is refl
+    rw c.in-Eq.is (told_by (λ t. t) truth (λ x y h. search rules) _ _ _
+    c.map.ensures.cases c.eq.ensures)
 
 pub returns-in-Cmp : goal.returns-in-Cmp
 unfolding answered_both
 returns-in-Cmp c =
-    both_known ordered _ _ _ c.of_ordering.ensures c.cmp.ensures _ _ _ _ _ _
-    c.in-Cmp.is refl
+    rw c.in-Cmp.is (told_by order_of ordered (λ x y h. search rules) _ _ _
+    c.map-in-Cmp.ensures.cases c.cmp.ensures)

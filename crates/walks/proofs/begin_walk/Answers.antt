@@ -1,12 +1,10 @@
 -- `walks::begin_walk` meets its contract. Assumes nothing.
-use Rattle.queue.proofs.Checks.{failed_number, passed_zero}
+use mathlib.Core.Path.{sym}
 use Rattle.walks.proofs.Steps.{not_begun, begun}
 use Rattle.walks.proofs.begin_walk.Goals as goal
 
-pub returns-in-Refused : goal.returns-in-Refused
-returns-in-Refused c = not_begun _ _ _ (failed_number _ _ _ c.check.ensures
-    c.in-Refused.is)
+pub returns-in_err-check : goal.returns-in_err-check
+returns-in_err-check c = not_begun _ _ _ _ c.from_residual.ensures.1 c.in_err-check.ensures.number
 
 pub returns : goal.returns
-returns c = begun _ _ _ (passed_zero _ _ c.check.ensures c.in_default.is)
-    c.whole_walk.ensures
+returns c = begun _ _ _ (sym c.in_ok-check.ensures.number) c.whole_walk.ensures

@@ -1,108 +1,31 @@
 -- `copies::wraps::copy_dst_before_src` meets its contract: what
 -- is copied later was not overwritten before. Assumes nothing.
-use native.Mathlib.Omega.{arith}
-use Rattle.copies.proofs.Overlaps.{dst_wraps, behind, up_both}
+use Rattle.std.proofs.Common.{arith}
+use Rattle.copies.proofs.Overlaps.{dst_wraps, up_both}
 use Rattle.stretches.proofs.Order.{way, on, over, up}
 use Rattle.copies.proofs.wraps.copy_dst_before_src.Goals as goal
 
-pub overflow_sub-src_pre_wrap_len : goal.overflow_sub-src_pre_wrap_len
-overflow_sub-src_pre_wrap_len c = omega arith
-
-pub overflow_sub-dst_pre_wrap_len : goal.overflow_sub-dst_pre_wrap_len
-overflow_sub-dst_pre_wrap_len c = omega arith
-
-pub copy-requires : goal.copy-requires
-copy-requires c = let k = dst_wraps _ _ _ _ _ _ c.requires.one_wraps
-    c.as_index.ensures c.as_index-2.ensures c.if-src_pre_wrap_len-len.true
-    in omega arith
-
-pub add-requires : goal.add-requires
-add-requires c = let k = dst_wraps _ _ _ _ _ _
-    c.requires.one_wraps
-    c.as_index.ensures
-    c.as_index-2.ensures
-    c.if-src_pre_wrap_len-len.true in omega arith
-
-pub overflow_sub-len : goal.overflow_sub-len
-overflow_sub-len c = let k = dst_wraps _ _ _ _ _ _
-    c.requires.one_wraps
-    c.as_index.ensures
-    c.as_index-2.ensures
-    c.if-src_pre_wrap_len-len.true in omega arith
-
-pub copy-requires-then-src_pre_wrap_len-len : goal.copy-requires-then-src_pre_wrap_len-len
-copy-requires-then-src_pre_wrap_len-len c = let k = dst_wraps _ _ _ _ _ _
-    c.requires.one_wraps
-    c.as_index.ensures
-    c.as_index-2.ensures
-    c.if-src_pre_wrap_len-len.true in omega arith
-
-pub copy-requires-then-dst_pre_wrap_len-len : goal.copy-requires-then-dst_pre_wrap_len-len
-copy-requires-then-dst_pre_wrap_len-len c = omega arith
-
-pub add-requires-then-dst_pre_wrap_len-len : goal.add-requires-then-dst_pre_wrap_len-len
-add-requires-then-dst_pre_wrap_len-len c = omega arith
-
-pub overflow_sub-len-then-dst_pre_wrap_len-len : goal.overflow_sub-len-then-dst_pre_wrap_len-len
-overflow_sub-len-then-dst_pre_wrap_len-len c = omega arith
-
-pub copy-requires-then-dst_pre_wrap_len-len-2 : goal.copy-requires-then-dst_pre_wrap_len-len-2
-copy-requires-then-dst_pre_wrap_len-len-2 c = omega arith
-
-pub overflow_sub-delta : goal.overflow_sub-delta
-overflow_sub-delta c = let k = behind _ _ _ _ _ _ c.requires.src_in_bounds.0
-    c.requires.src_in_bounds.1 c.requires.len_bound
-    c.as_index.ensures c.as_index-2.ensures c.if-src_pre_wrap_len-len.false
-    in omega arith
-
-pub copy-requires-else-dst_pre_wrap_len-len : goal.copy-requires-else-dst_pre_wrap_len-len
-copy-requires-else-dst_pre_wrap_len-len c = let k = behind _ _ _ _ _ _ c.requires.src_in_bounds.0
-    c.requires.src_in_bounds.1
-    c.requires.len_bound
-    c.as_index.ensures c.as_index-2.ensures
-    c.if-src_pre_wrap_len-len.false in omega arith
-
-pub add-requires-else-dst_pre_wrap_len-len : goal.add-requires-else-dst_pre_wrap_len-len
-add-requires-else-dst_pre_wrap_len-len c = omega arith
-
-pub copy-requires-else-dst_pre_wrap_len-len-2 : goal.copy-requires-else-dst_pre_wrap_len-len-2
-copy-requires-else-dst_pre_wrap_len-len-2 c = let k = behind _ _ _ _ _ _
-    c.requires.src_in_bounds.0
-    c.requires.src_in_bounds.1
-    c.requires.len_bound
-    c.as_index.ensures
-    c.as_index-2.ensures
-    c.if-src_pre_wrap_len-len.false in omega arith
-
-pub overflow_sub-len-else-dst_pre_wrap_len-len : goal.overflow_sub-len-else-dst_pre_wrap_len-len
-overflow_sub-len-else-dst_pre_wrap_len-len c = omega arith
-
-pub copy-requires-else-dst_pre_wrap_len-len-3 : goal.copy-requires-else-dst_pre_wrap_len-len-3
-copy-requires-else-dst_pre_wrap_len-len-3 c = omega arith
-
 pub returns-then-src_pre_wrap_len-len : goal.returns-then-src_pre_wrap_len-len
 returns-then-src_pre_wrap_len-len c =
-    let k = dst_wraps _ _ _ _ _ _ c.requires.one_wraps
-    c.as_index.ensures c.as_index-2.ensures c.if-src_pre_wrap_len-len.true in
+    let k = dst_wraps _ _ _ _ _ _ c.requires.one_wraps c.as_index.ensures c.as_index-2.ensures
+    c.if-src_pre_wrap_len-len.true in
     let w = way _ _ _ c.requires.src_in_bounds.0 c.requires.src_in_bounds.1 in
     up c.args.slots.now _ _ _ c.requires.src_in_bounds.0 w.0 w.1 _ _ _ _ _ _ c.args.len
-    c.copy.ensures
-    c.copy-then-src_pre_wrap_len-len.ensures (on (omega arith)) (over (omega arith)) (omega arith) c.requires.len_bound
+    c.copy.ensures c.copy-then-src_pre_wrap_len-len.ensures
+    (on (omega arith)) (over (omega arith)) (omega arith) c.requires.len_bound
 
 pub returns-then-dst_pre_wrap_len-len : goal.returns-then-dst_pre_wrap_len-len
 returns-then-dst_pre_wrap_len-len c =
     let w = way _ _ _ c.requires.src_in_bounds.0 c.requires.src_in_bounds.1 in
     up c.args.slots.now _ _ _ c.requires.src_in_bounds.0 w.0 w.1 _ _ _ _ _ _ c.args.len
-    c.copy-then-dst_pre_wrap_len-len.ensures
-    c.copy-then-dst_pre_wrap_len-len-2.ensures (over (omega arith)) (on (omega arith)) (omega arith) c.requires.len_bound
+    c.copy-then-dst_pre_wrap_len-len.ensures c.copy-then-dst_pre_wrap_len-len-2.ensures
+    (over (omega arith)) (on (omega arith)) (omega arith) c.requires.len_bound
 
 pub returns-else-dst_pre_wrap_len-len : goal.returns-else-dst_pre_wrap_len-len
 returns-else-dst_pre_wrap_len-len c =
-    up_both c.args.slots.now _ _ _ _ _ _ _ _ _ _ _ _ c.requires.src_in_bounds.0 c.requires.src_in_bounds.1 c.requires.len_bound
-    c.as_index.ensures
-    c.as_index-2.ensures
-    c.if-src_pre_wrap_len-len.false
-    c.if-dst_pre_wrap_len-len.false
+    let inside = c.requires.src_in_bounds in
+    up_both c.args.slots.now _ _ _ _ _ _ _ _ _ _ _ _ inside.0 inside.1 c.requires.len_bound
+    c.as_index.ensures c.as_index-2.ensures c.if-src_pre_wrap_len-len.false c.if-dst_pre_wrap_len-len.false
     c.copy-else-dst_pre_wrap_len-len.ensures
     c.zero-else-dst_pre_wrap_len-len.ensures
     c.add-else-dst_pre_wrap_len-len.ensures

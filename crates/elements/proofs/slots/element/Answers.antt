@@ -14,11 +14,11 @@ wrap_add-at-requires c =
     omega arith
 
 pub offset_bounds-slots-p : goal.offset_bounds-slots-p
-offset_bounds-slots-p c = let k = (let it : c.as_index-p.result < length c.args.slots.now = let a = c.args in element_in a.slots.now (rec_of a.q) a.i c.requires.0 c.requires.1 _ (c.as_index-p.ensures ∙ c.wrap_add-at.ensures) in it) in omega arith
+offset_bounds-slots-p c = let k = (let it : c.as_index-p.result < length c.args.slots.now = let a = c.args in element_in a.slots.now (rec_of a.q) a.i c.requires.0 c.requires.1 _ (c.as_index-p.ensures ∙ c.wrap_add-at.ensures.place) in it) in omega arith
 
 pub bounds-slots-p : goal.bounds-slots-p
-bounds-slots-p c = (let it : c.as_index-p.result < length c.args.slots.now = let a = c.args in element_in a.slots.now (rec_of a.q) a.i c.requires.0 c.requires.1 _ (c.as_index-p.ensures ∙ c.wrap_add-at.ensures) in it)
+bounds-slots-p c = (let it : c.as_index-p.result < length c.args.slots.now = let a = c.args in element_in a.slots.now (rec_of a.q) a.i c.requires.0 c.requires.1 _ (c.as_index-p.ensures ∙ c.wrap_add-at.ensures.place) in it)
 
 pub returns : goal.returns
 returns c = element_is _ _ _ c.requires.0 c.requires.1 _
-    (c.as_index-p.ensures ∙ c.wrap_add-at.ensures)
+    (c.as_index-p.ensures ∙ c.wrap_add-at.ensures.place)

@@ -1,13 +1,12 @@
 -- `ends::clear` meets its contract. Assumes nothing.
+use Rattle.std.proofs.Common.{sym, arith}
 use Rattle.ends.proofs.cuts.Laws.{cleared}
-use Rattle.queue.proofs.Checks.{passed_zero, told_first_lem}
+use Rattle.queue.proofs.Checks.{change_refused}
 use Rattle.ends.proofs.cuts.clear.Goals as goal
 
-pub returns-in-Refused : goal.returns-in-Refused
-returns-in-Refused c =
-    rw c.refused.ensures
-    (told_first_lem _ _ _ c.check_change.ensures _ _
-    c.in-Refused.is)
+pub returns-in_err-check_change : goal.returns-in_err-check_change
+returns-in_err-check_change c =
+    change_refused _ _ _ _ _ c.from_residual.ensures.1 c.in_err-check_change.ensures.number
 
 pub returns : goal.returns
-returns c = cleared _ _ (passed_zero _ _ c.check_change.ensures c.in_default.is) _ _ c.zero-head.ensures c.stepped.ensures
+returns c = cleared _ _ (sym c.in_ok-check_change.ensures.number) _ _ (omega arith) c.stepped.ensures

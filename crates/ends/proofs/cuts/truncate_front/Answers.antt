@@ -1,21 +1,17 @@
 -- `ends::truncate_front` meets its contract. Assumes nothing.
-use Rattle.std.proofs.Common.{arith}
+use Rattle.std.proofs.Common.{sym}
 use Rattle.ends.proofs.cuts.Laws.{front_kept, front_cut}
-use Rattle.queue.proofs.Checks.{passed_zero, fine_change, told_first_lem}
+use Rattle.queue.proofs.Checks.{change_refused}
 use Rattle.ends.proofs.cuts.truncate_front.Goals as goal
 
-pub returns-in-Refused : goal.returns-in-Refused
-returns-in-Refused c =
-    rw c.refused.ensures
-    (told_first_lem _ _ _ c.check_change.ensures _ _
-    c.in-Refused.is)
+pub returns-in_err-check_change : goal.returns-in_err-check_change
+returns-in_err-check_change c =
+    change_refused _ _ _ _ _ c.from_residual.ensures.1 c.in_err-check_change.ensures.number
 
 pub returns-then-n-len : goal.returns-then-n-len
-returns-then-n-len c = front_kept _ _ (passed_zero _ _ c.check_change.ensures c.in_default.is) _ c.if-n-len.true
-
-pub wrap_add-head-requires : goal.wrap_add-head-requires
-wrap_add-head-requires c = let g = (fine_change _ _ (passed_zero _ _ c.check_change.ensures c.in_default.is)).good in omega arith
+returns-then-n-len c = front_kept _ _ (sym c.in_ok-check_change.ensures.number) _ c.if-n-len.true
 
 pub returns : goal.returns
-returns c = front_cut _ _ (passed_zero _ _ c.check_change.ensures c.in_default.is) _ _ _ c.if-n-len.false
-    c.wrap_add-head.ensures c.stepped.ensures
+returns c =
+    front_cut _ _ (sym c.in_ok-check_change.ensures.number) _ _ _ c.if-n-len.false c.wrap_add-head.ensures.place
+    c.stepped.ensures

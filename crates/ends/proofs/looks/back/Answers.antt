@@ -4,4 +4,4 @@ use Rattle.ends.proofs.looks.Laws.{last_wrapped}
 use Rattle.ends.proofs.looks.back.Goals as goal
 
 pub returns : goal.returns
-returns c = c.get.ensures ∙ last_wrapped _ _ _ c.wrapping_sub_usize.ensures.value (omega arith)
+returns c = c.get.ensures ∙ last_wrapped _ _ _ (omega arith) (omega arith)

@@ -1,6 +1,10 @@
 -- `ends::pop_back_if` meets its contract. Assumes nothing.
-use Rattle.ends.proofs.pops.Conditional.{back_only_if}
+use Rattle.ends.proofs.pops.Conditional.{back_condition, decided, refused_too}
 use Rattle.ends.proofs.pops.pop_back_if.Goals as goal
 
+pub returns-in_err-popped : goal.returns-in_err-popped
+returns-in_err-popped c =
+    refused_too _ _ _ _ _ (back_condition _ _ _) _ _ c.from_residual.ensures.1 c.in_err-popped.ensures
+
 pub returns : goal.returns
-returns c = back_only_if _ _ _ _ _ c.only_if.ensures c.pop_back.ensures
+returns c = decided _ _ _ _ _ (back_condition _ _ _) _ _ c.only_if.ensures c.in_ok-popped.ensures

@@ -1,19 +1,14 @@
 -- `middle::remove_earlier` meets its contract. Assumes nothing.
-use native.Mathlib.Omega.{arith}
-use lib.ListN.{length}
+use Rattle.std.proofs.Common.{arith}
 use Rattle.middle.proofs.Room.{overlap_on, earlier_closed}
-use Rattle.rules.proofs.Places.{place-low}
+use Rattle.rules.specs.Records.{held}
 use Rattle.middle.proofs.removing.remove_earlier.Goals as goal
 
-pub wrap_copy-requires : goal.wrap_copy-requires
-wrap_copy-requires c =
-    let a = c.args in
-    let p = c.requires.head_in_bounds in
-    let low = place-low (length a.slots.now) a.head.0 p.0 1 (omega arith) in record { src_in_bounds = omega (arith, c.requires.next_value); one_overlap = overlap_on (length a.slots.now) a.head.0 a.index p.0 (omega arith) _ c.requires.next_value }
+pub wrap_copy-requires-clause-one_overlap : goal.wrap_copy-requires-clause-one_overlap
+wrap_copy-requires-clause-one_overlap c =
+    overlap_on _ _ _ (omega arith) (omega arith) _ c.next-head.ensures.place
 
-pub returns : goal.returns
-returns c =
-    let a = c.args in
-    let p = c.requires.head_in_bounds in
-    earlier_closed a.slots.now _ _ _ p.0 p.1 p.2 _ _ c.requires.next_value
-    c.wrap_copy.ensures
+pub returns-clause-slots_after : goal.returns-clause-slots_after
+unfolding held
+returns-clause-slots_after c =
+    earlier_closed _ _ _ _ (omega arith) (omega arith) (omega arith) _ _ c.next-head.ensures.place c.wrap_copy.ensures

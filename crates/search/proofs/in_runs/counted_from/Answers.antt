@@ -6,5 +6,5 @@ use Rattle.search.proofs.in_runs.counted_from.Goals as goal
 pub returns-then-begins_with : goal.returns-then-begins_with
 returns-then-begins_with c = back_counted _ _ _ (sym c.begins_with.ensures ∙ c.if-begins_with.true)
 
-pub returns : goal.returns
-returns c = front_counted _ _ _ (sym c.begins_with.ensures ∙ c.if-begins_with.false)
+pub returns-else-begins_with : goal.returns-else-begins_with
+returns-else-begins_with c = front_counted _ _ _ (sym c.begins_with.ensures ∙ c.if-begins_with.false)

@@ -7,24 +7,6 @@ use Rattle.search.proofs.in_runs.place_in.Goals as goal
 pub loop-high-init : goal.loop-high-init
 loop-high-init c = (omega arith, omega arith, starts _ _)
 
-pub overflow_sub-middle : goal.overflow_sub-middle
-overflow_sub-middle c = omega arith
-
-pub overflow_add-middle : goal.overflow_add-middle
-overflow_add-middle c = omega arith
-
-pub offset_bounds-run-middle : goal.offset_bounds-run-middle
-offset_bounds-run-middle c = omega arith
-
-pub bounds-run-middle : goal.bounds-run-middle
-bounds-run-middle c = omega arith
-
-pub overflow_add-low : goal.overflow_add-low
-overflow_add-low c = omega arith
-
-pub loop-high-smaller-then-meets : goal.loop-high-smaller-then-meets
-loop-high-smaller-then-meets c = omega arith
-
 pub loop-high-preserved-then-meets : goal.loop-high-preserved-then-meets
 loop-high-preserved-then-meets c = (
   omega arith,
@@ -32,9 +14,6 @@ loop-high-preserved-then-meets c = (
   goes_up _ _ _ _ c.if-low-high.false (sym c.meets.ensures ∙ c.if-meets.true)
       c.loop-high.invariant.2,
 )
-
-pub loop-high-smaller : goal.loop-high-smaller
-loop-high-smaller c = omega arith
 
 pub loop-high-preserved : goal.loop-high-preserved
 loop-high-preserved c = (

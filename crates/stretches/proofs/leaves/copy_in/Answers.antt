@@ -1,13 +1,10 @@
 -- `stretches::leaves::copy_in` meets its contract: what was held is what was lent. Assumes nothing.
-use mathlib.Core.Path.{◌∙◌, ap, refl}
-use native.Mathlib.Omega.{arith}
-use Rattle.stretches.proofs.Parts.{held}
-use Rattle.rules.specs.Slots.{lay}
+use Rattle.std.proofs.Common.{◌∙◌, ap, length, refl}
+use Rattle.std.proofs.lemmas.List.{take_at}
+use Rattle.stretches.proofs.Parts.{front}
 use Rattle.stretches.proofs.leaves.copy_in.Goals as goal
 
 pub returns : goal.returns
 returns c =
-    c.copy_front-2.ensures
-    ∙ ap (lay c.args.dst.now 0)
-    (held _ _ _ c.args.src.now _
-    c.copy_front.ensures refl refl (omega arith))
+    let taken = c.copy_each.ensures in
+    front _ _ _ _ (c.copy_each-2.ensures ∙ take_at _ _ _ (ap length taken) ∙ taken) refl c.requires.0

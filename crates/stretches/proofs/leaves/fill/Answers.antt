@@ -1,21 +1,15 @@
--- `stretches::leaves::fill` meets its contract. The invariant: the first i slots are v. Assumes nothing.
-use mathlib.Core.Path.{sym}
-use native.Mathlib.Omega.{arith}
-use lib.ListN.{replicate, length-replicate, get_or-replicate}
-use Rattle.stretches.proofs.Fronts.{none, next, all}
+-- `stretches::leaves::fill` meets its contract. Assumes nothing.
+use Rattle.std.proofs.Common.{arith, ◌∙◌, ◌≡◌, sym, ap, replicate}
+use Rattle.std.proofs.lemmas.List.{length-replicate, length-take-le, take_all}
+use Rattle.stretches.proofs.Parts.{front}
 use Rattle.stretches.proofs.leaves.fill.Goals as goal
 
-pub loop-i-init : goal.loop-i-init
-loop-i-init c = none (replicate c.args.n c.args.v) c.args.dst.now
-
-pub loop-i-preserved : goal.loop-i-preserved
-loop-i-preserved c =
-    let a = c.args in
-    let l = c.loop-i in
-    let many = length-replicate a.n a.v in
-    next (replicate a.n a.v) a.dst.now (omega arith) l.dst l.i a.v l.invariant (omega arith)
-    (sym (get_or-replicate a.n l.i a.v 0 (omega arith)))
-
 pub returns : goal.returns
-returns c = let many = length-replicate c.args.n c.args.v in all _
-    c.args.dst.now _ _ c.loop-i.invariant (omega arith)
+returns c =
+    let l = c.loop-slot in
+    let n = c.args.n in
+    let lent = length-take-le n c.args.dst.now c.requires in
+    let all : l.slot-index ≡ n = omega arith in
+    let filled = sym (take_all l.slot-index l.slot-items (omega arith)) ∙ l.invariant
+    ∙ ap (λ k. replicate k c.args.v) all in
+    front _ _ _ n filled (length-replicate n c.args.v) c.requires

@@ -1,50 +1,66 @@
 -- `turns::steps::on_both` meets its contract. Assumes nothing.
-use mathlib.Core.Path.{ap}
-use Rattle.queue.specs.Drains.{state_of}
-use Rattle.turns.proofs.Known.{first_known, second_known, pair_call_known}
-use Rattle.turns.proofs.Taken.{both_over, other-over}
-use Rattle.turns.proofs.Told.{over, appended, split, moved_all, moved-portion, compared}
+use mathlib.Core.List.{[]}
+use mathlib.Core.Path.{refl, ap, ◌∙◌}
+use Rattle.answers.proofs.Forms.{joined_form, split_form}
+use Rattle.rules.specs.Pairs.{do_append, do_split}
+use Rattle.rules.specs.Regions.{do_move, do_portion}
+use Rattle.rules.specs.Sequences.{first_step, takes, if_shut, taken_step, still_step, pair_step, stands}
+use Rattle.turns.proofs.Told.{both_told, look_told_lem}
 use Rattle.turns.proofs.steps.on_both.Goals as goal
 
-pub returns-in_default : goal.returns-in_default
-returns-in_default c = over _ _ _ _ _ _ (both_over _ _ _ _ (ap state_of c.in_default.is)) c.passed_over.ensures
+pub returns-in_default-clause-step : goal.returns-in_default-clause-step
+unfolding first_step takes if_shut taken_step still_step
+returns-in_default-clause-step c = rw (c.in_default.is-0, c.in_default.is-1) refl
 
-pub returns-in_default-second : goal.returns-in_default-second
-returns-in_default-second c =
-    first_known _ _ _ _ _ _ c.in-Shut.is _
-    (over _ _ _ _ _ _ (other-over _ _ _ _ (ap state_of c.in_default-second.is)) c.passed_over-in_default-second.ensures)
+pub returns-in_default-2-clause-step : goal.returns-in_default-2-clause-step
+unfolding first_step takes if_shut taken_step still_step
+returns-in_default-2-clause-step c = rw c.in_default.is-0 refl
 
-pub returns-in-Append : goal.returns-in-Append
-returns-in-Append c =
-    first_known _ _ _ _ _ _ c.in-Shut.is _
-    (second_known _ _ _ _ _ _ c.in-Shut-second.is _
-    (pair_call_known _ _ _ _ _ _ _ c.in-Append.is
-    (appended _ _ _ _ _ _ _ _ (c.of_joined.ensures _) c.append.ensures)))
+pub returns-in-Append-clause-step : goal.returns-in-Append-clause-step
+unfolding first_step takes if_shut taken_step pair_step
+returns-in-Append-clause-step c =
+    let k = c.in-Shut-Shut in
+    let told = rw (k.is-0, k.is-1) at c.keep_both.ensures.told in
+    let same = c.keep_both.ensures.same_slots in
+    rw (k.is-0, k.is-1, c.in-Append.is)
+    (both_told _ (do_append _ _ _ _) [] _ _ _ _ _ _ (told ∙ joined_form _ _ _ _)
+    (ap (λ s. s.now) same.0) (ap (λ s. s.now) same.1) (rw c.lent.ensures at c.append-change.ensures))
 
-pub returns-in-SplitOff : goal.returns-in-SplitOff
-returns-in-SplitOff c =
-    first_known _ _ _ _ _ _ c.in-Shut.is _
-    (second_known _ _ _ _ _ _ c.in-Shut-second.is _
-    (pair_call_known _ _ _ _ _ _ _ c.in-SplitOff.is
-    (split _ _ _ _ _ _ _ _ _ c.of_split.ensures c.split_off.ensures)))
+pub returns-in-SplitOff-clause-step : goal.returns-in-SplitOff-clause-step
+unfolding first_step takes if_shut taken_step pair_step
+returns-in-SplitOff-clause-step c =
+    let k = c.in-Shut-Shut in
+    let told = rw (k.is-0, k.is-1) at c.keep_both-in-SplitOff.ensures.told in
+    let same = c.keep_both-in-SplitOff.ensures.same_slots in
+    rw (k.is-0, k.is-1, c.in-SplitOff.is)
+    (both_told _ (do_split _ _ _ _) (stands _ _) _ _ _ _ _ _ (told ∙ split_form _ _ _)
+    (ap (λ s. s.now) same.0) (ap (λ s. s.now) same.1) (rw c.lent-in-SplitOff.ensures at c.split_off-change.ensures))
 
-pub returns-in-MoveAll : goal.returns-in-MoveAll
-returns-in-MoveAll c =
-    first_known _ _ _ _ _ _ c.in-Shut.is _
-    (second_known _ _ _ _ _ _ c.in-Shut-second.is _
-    (pair_call_known _ _ _ _ _ _ _ c.in-MoveAll.is
-    (moved_all _ _ _ _ _ _ _ _ c.of_split-in-MoveAll.ensures c.move_all.ensures)))
+pub returns-in-MoveAll-clause-step : goal.returns-in-MoveAll-clause-step
+unfolding first_step takes if_shut taken_step pair_step
+returns-in-MoveAll-clause-step c =
+    let k = c.in-Shut-Shut in
+    let told = rw (k.is-0, k.is-1) at c.keep_both-in-MoveAll.ensures.told in
+    let same = c.keep_both-in-MoveAll.ensures.same_slots in
+    rw (k.is-0, k.is-1, c.in-MoveAll.is)
+    (both_told _ (do_move _ _ _) (stands _ _) _ _ _ _ _ _ (told ∙ split_form _ _ _)
+    (ap (λ s. s.now) same.0) (ap (λ s. s.now) same.1) (rw c.lent-in-MoveAll.ensures at c.move_all-change.ensures))
 
-pub returns-in-MovePortion : goal.returns-in-MovePortion
-returns-in-MovePortion c =
-    first_known _ _ _ _ _ _ c.in-Shut.is _
-    (second_known _ _ _ _ _ _ c.in-Shut-second.is _
-    (pair_call_known _ _ _ _ _ _ _ c.in-MovePortion.is
-    (moved-portion _ _ _ _ _ _ _ _ _ (c.of_joined-in-MovePortion.ensures _) c.move_portion.ensures)))
+pub returns-in-MovePortion-clause-step : goal.returns-in-MovePortion-clause-step
+unfolding first_step takes if_shut taken_step pair_step
+returns-in-MovePortion-clause-step c =
+    let k = c.in-Shut-Shut in
+    let told = rw (k.is-0, k.is-1) at c.keep_both-in-MovePortion.ensures.told in
+    let same = c.keep_both-in-MovePortion.ensures.same_slots in
+    rw (k.is-0, k.is-1, c.in-MovePortion.is)
+    (both_told _ (do_portion _ _ _ _ _) [] _ _ _ _ _ _ (told ∙ joined_form _ _ _ _)
+    (ap (λ s. s.now) same.0) (ap (λ s. s.now) same.1)
+    (rw c.lent-in-MovePortion.ensures at c.move_portion-change.ensures))
 
-pub returns-in-Comparing : goal.returns-in-Comparing
-returns-in-Comparing c =
-    first_known _ _ _ _ _ _ c.in-Shut.is _
-    (second_known _ _ _ _ _ _ c.in-Shut-second.is _
-    (pair_call_known _ _ _ _ _ _ _ c.in-Comparing.is
-    (compared _ _ _ _ _ _ _ c.of_looked.ensures c.ask_both.ensures)))
+pub returns-in-Comparing-clause-step : goal.returns-in-Comparing-clause-step
+unfolding first_step takes if_shut taken_step pair_step
+returns-in-Comparing-clause-step c =
+    let k = c.in-Shut-Shut in
+    rw (k.is-0, k.is-1, c.in-Comparing.is)
+    (look_told_lem _ _ _ _ _ (c.told_look.ensures _ _)
+    (rw (c.lent-in-Comparing.ensures, c.lent-in-Comparing-2.ensures) at c.ask_both.ensures))

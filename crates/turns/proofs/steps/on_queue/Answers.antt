@@ -1,23 +1,20 @@
 -- `turns::steps::on_queue` meets its contract. Assumes nothing.
-use mathlib.Core.Path.{ap}
-use Rattle.queue.specs.Drains.{state_of}
-use Rattle.turns.proofs.Known.{first_known, queue-call_known}
-use Rattle.turns.proofs.Taken.{queue-over}
-use Rattle.turns.proofs.Told.{over, changed, asked}
+use mathlib.Core.Path.{ap, refl}
+use Rattle.rules.specs.Sequences.{first_step, takes, if_shut, taken_step, still_step, queue_step, do_on_queue}
+use Rattle.turns.proofs.Told.{one_told, look_told_lem}
 use Rattle.turns.proofs.steps.on_queue.Goals as goal
 
-pub returns-in_default : goal.returns-in_default
-returns-in_default c =
-    λ y. over _ y _ _ _ _ (queue-over _ _ _ _ (ap state_of c.in_default.is)) c.passed_over.ensures
+pub returns-in-Changing-clause-step : goal.returns-in-Changing-clause-step
+unfolding first_step takes if_shut taken_step queue_step
+returns-in-Changing-clause-step c = λ second. rw (c.in-Shut.is, c.in-Changing.is)
+    (one_told second (do_on_queue _ _ _) _ _ _ _ (c.keep.ensures.told second.state)
+    (ap (λ s. s.now) c.keep.ensures.same_slots) c.change-answer.ensures)
 
-pub returns-in-Changing : goal.returns-in-Changing
-returns-in-Changing c = λ y.
-    first_known _ y _ _ _ _ c.in-Shut.is _
-    (queue-call_known _ _ y _ _ _ _ _ _ c.in-Changing.is
-    (changed _ y _ _ _ _ _ _ c.with_other.ensures c.change.ensures))
+pub returns-in-Asking-clause-step : goal.returns-in-Asking-clause-step
+unfolding first_step takes if_shut taken_step queue_step
+returns-in-Asking-clause-step c = λ second. rw (c.in-Shut.is, c.in-Asking.is)
+    (look_told_lem _ second _ _ _ (c.told_look.ensures _ second.state) (rw c.lent.ensures at c.ask.ensures))
 
-pub returns-in-Asking : goal.returns-in-Asking
-returns-in-Asking c = λ y.
-    first_known _ y _ _ _ _ c.in-Shut.is _
-    (queue-call_known _ _ y _ _ _ _ _ _ c.in-Asking.is
-    (asked _ y _ _ _ _ _ c.of_looked.ensures c.ask.ensures))
+pub returns-in_default-clause-step : goal.returns-in_default-clause-step
+unfolding first_step takes if_shut taken_step still_step
+returns-in_default-clause-step c = λ second. rw c.in_default.is refl

@@ -1,8 +1,0 @@
--- `exports_ends::scorebucket_push_back` meets its contract. Assumes nothing.
-use Rattle.replies.proofs.Crossing.{by_rule}
-use Rattle.exports_ends.proofs.scorebucket_push_back.Goals as goal
-
-pub returns : goal.returns
-returns c =
-    by_rule _ _ _ c.deque_in-before.ensures _ _ _ _ _ _
-    c.changed.ensures c.push_back.ensures

@@ -1,2 +1,0 @@
--- `Writing`: what an image that is written leaves.
-pub mod Writing

@@ -1,2 +1,0 @@
--- `Pairs`: what an exported call on two queues answers.
-pub mod Pairs

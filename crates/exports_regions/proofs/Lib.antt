@@ -1,2 +1,0 @@
--- `Moves`: what an exported move answers.
-pub mod Moves

@@ -1,2 +1,0 @@
--- `ByTest`: `partition_point` with a test of a kind.
-pub mod ByTest

@@ -1,2 +1,0 @@
--- `ByTest`: calls with a test of a kind.
-pub mod ByTest
