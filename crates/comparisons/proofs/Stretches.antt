@@ -2,14 +2,14 @@
 -- Assumes nothing.
 use mathlib.Core.Bool.{Bool, true, false, ◌&&◌}
 use mathlib.Core.List.{List, [], ◌∷◌, ◌++◌}
-use mathlib.Core.Logic.{⊎_elim}
-use mathlib.Core.Path.{◌≡◌, refl, ap, ◌∙◌}
-use Prim.Native.Nat.{ℕ, ◌<◌, ◌≤◌}
+use mathlib.Core.Logic.{⊎_elim, ◌≢◌}
+use mathlib.Core.Path.{◌≡◌, refl, ap, sym, ◌∙◌}
+use Prim.Native.Nat.{ℕ, suc, ◌+◌, ◌<◌, ◌≤◌}
 use native.Mathlib.Omega.{arith}
 use borrow.Author.Tests.{eq-eqb, ne_eqb, lt-ltb, le-ltb}
 use denote.Ref.{Bor}
 use lib.Dec.{eqb, ltb}
-use lib.ListN.{length}
+use lib.ListN.{length, length-append}
 use lib.Pointwise.{pointwise}
 use Rattle.std.specs.Cmp.Lexicographic.{slice_cmp}
 use Rattle.std.specs.Ordering.{nat_cmp, ordering_then}
@@ -97,6 +97,24 @@ order_is (v ∷ l) (w ∷ m) =
     order_then (nat_cmp v w) (slice_cmp nat_cmp l m)
     ∙ ap (after (order_of (nat_cmp v w))) (order_is l m)
     ∙ number_order v w (order l m)
+
+-- ---- lists of two lengths
+
+and_false : (t : Bool) {u : Bool} → false ≡ u → false ≡ t && u
+and_false true e = e
+and_false false e = refl
+
+length_differs : (l m : List ℕ) → length l ≢ length m → false ≡ same l m
+unfolding same
+length_differs [] [] ne = absurd (ne refl)
+length_differs [] (w ∷ m) ne = refl
+length_differs (v ∷ l) [] ne = refl
+length_differs (v ∷ l) (w ∷ m) ne = and_false (eqb v w) (length_differs l m (λ e. ne (ap suc e)))
+
+-- each in two runs
+pub runs_differ : (l m l' m' : List ℕ) → length l + length m ≢ length l' + length m' → false ≡ same (l ++ m) (l' ++ m')
+runs_differ l m l' m' ne =
+    length_differs (l ++ m) (l' ++ m') (λ e. ne (sym (length-append l m) ∙ e ∙ length-append l' m'))
 
 -- ---- stretch by stretch
 

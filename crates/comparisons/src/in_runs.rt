@@ -60,11 +60,16 @@ fn cut_alike<'a>(ours: TwoRuns<'a>, theirs: TwoRuns<'a>) -> (Stretches<'a>, Stre
     (ours, theirs)
 }
 
-// Whether the two lists are the same.
-#[tactic(auto, using(crate::proofs::Stretches::same_stretches))]
+// Whether the two lists are the same. Of lists of different lengths no element is looked at.
+#[tactic(auto, using(crate::proofs::Stretches::same_stretches, crate::proofs::Stretches::runs_differ))]
 pub fn same_runs(ours: TwoRuns, theirs: TwoRuns) -> bool
     ensures { result ≡ same (listed ours.entry) (listed theirs.entry) }
 {
+    let len = ours.front.len() + ours.back.len();
+    let other_len = theirs.front.len() + theirs.back.len();
+    if len != other_len {
+        return false;
+    }
     let (ours, theirs) = cut_alike(ours, theirs);
     ours == theirs
 }

@@ -9,14 +9,14 @@ fn main(rt: HostRuntime) {
     let mut input = [0u8; BUFFER];
     let mut out = [0u8; BUFFER];
     let mut desk = Desk {
-        program: "replay",
+        program: b"replay",
         slots: &mut slots,
         input: &mut input,
         out: &mut out,
     };
     let replayed = desk.replay(rt, u64::MAX);
     if let Some(place) = replayed.broken {
-        streams::say(rt, format_args!("replay: {place}\n"));
+        streams::tell(rt, format_args!("replay: {place}"));
     }
     streams::leave(rt, replayed.ended);
 }

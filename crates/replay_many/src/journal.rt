@@ -1,6 +1,6 @@
 // One journal, and what is said of it.
 use replays::Desk;
-use streams::{Failure, say};
+use streams::{Failure, say, tell};
 
 // Passes over what a journal left unread; where the input ends before, says so.
 fn pass_over(rt: HostRuntime, desk: &mut Desk, number: u64, unread: u64) -> Result<(), Failure> {
@@ -8,12 +8,10 @@ fn pass_over(rt: HostRuntime, desk: &mut Desk, number: u64, unread: u64) -> Resu
     if missing == 0 {
         return Ok(());
     }
-    let program = desk.program;
-    say(
+    say(rt, desk.program);
+    tell(
         rt,
-        format_args!(
-            "{program}: journal {number} is cut short: {missing} of its bytes are missing\n"
-        ),
+        format_args!(": journal {number} is cut short: {missing} of its bytes are missing\n"),
     );
     Err(Failure::Broken)
 }
@@ -22,8 +20,8 @@ fn pass_over(rt: HostRuntime, desk: &mut Desk, number: u64, unread: u64) -> Resu
 pub fn run_one(rt: HostRuntime, desk: &mut Desk, number: u64, length: u32) -> Result<(), Failure> {
     let replayed = desk.replay(rt, u64::from(length));
     if let Some(place) = replayed.broken {
-        let program = desk.program;
-        say(rt, format_args!("{program}: journal {number}: {place}\n"));
+        say(rt, desk.program);
+        tell(rt, format_args!(": journal {number}: {place}"));
     }
     match replayed.ended {
         Ok(()) | Err(Failure::Broken) => {

@@ -33,7 +33,7 @@ fn main(rt: HostRuntime) {
     let mut input = [0u8; BUFFER];
     let mut out = [0u8; BUFFER];
     let mut desk = Desk {
-        program: "replay_many",
+        program: b"replay_many",
         slots: &mut slots,
         input: &mut input,
         out: &mut out,

@@ -12,5 +12,6 @@ pub const SLOTS: usize = 16000;
 // The bytes of each of its buffers: many records, and many lines.
 pub const BUFFER: usize = 65536;
 
+pub use reading::pass_over;
 pub use running::{Desk, Replayed};
 pub use telling::Place;

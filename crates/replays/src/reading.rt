@@ -17,7 +17,7 @@ fn reach(size: usize, have: usize, most: u64) -> usize
 // or the buffer full.
 pub fn more(
     rt: HostRuntime,
-    program: &str,
+    program: &[u8],
     input: &mut [u8],
     have: usize,
     most: u64,
@@ -32,12 +32,16 @@ pub fn more(
 // Reads that many bytes and throws them away, and gives how many of them were missing, since the input ended before.
 pub fn pass_over(
     rt: HostRuntime,
-    program: &str,
+    program: &[u8],
     input: &mut [u8],
     bytes: u64,
 ) -> Result<u64, Failure> {
     let mut left = bytes;
     for _ in 0..u64::MAX {
+        // Where none is left to be read, nothing is asked of the system.
+        if left == 0 {
+            break;
+        }
         let count = more(rt, program, input, 0, left)?;
         if count == 0 {
             break;

@@ -1,8 +1,9 @@
 // A journal, from its first byte to its last line.
-ghost use Rattle.std.specs.Prelude.{◌≡◌, ◌+◌, ◌≤◌, length};
+ghost use Rattle.std.specs.Prelude.{◌≡◌, ◌+◌, ◌≤◌};
 
 use crate::reading::{more, pass_over};
 use crate::telling::Place;
+use crate::{BUFFER, SLOTS};
 use plays::{Advanced, Playing, Stage};
 use streams::Failure;
 
@@ -17,12 +18,13 @@ pub struct Replayed {
 
 // What a replay works with: the name that the program speaks under, the queue's slots, and a buffer for what is read and
 // one for what is written.
+// Stays: arrays, since a slice would not say how long they are (65536, in the clauses below, is BUFFER).
 #[derive(Drop)]
 pub struct Desk<'a> {
-    pub program: &'static str,
-    pub slots: &'a mut [u32],
-    pub input: &'a mut [u8],
-    pub out: &'a mut [u8],
+    pub program: &'a [u8],
+    pub slots: &'a mut [u32; SLOTS],
+    pub input: &'a mut [u8; BUFFER],
+    pub out: &'a mut [u8; BUFFER],
 }
 
 // A replay between two steps: where it stands in the journal, the records that it played, where the journal broke, the
@@ -46,11 +48,7 @@ impl<'a> Desk<'a> {
     {
         let mut run = begun(limit);
         let ended = run_on(rt, self, &mut run);
-        Replayed {
-            unread: limit - run.read,
-            broken: run.broken,
-            ended,
-        }
+        left_of(run, ended)
     }
 
     // Reads that many bytes and throws them away, and gives how many of them were missing.
@@ -73,17 +71,28 @@ fn begun(limit: u64) -> Run
     }
 }
 
+// What is left of a replay.
+fn left_of(run: Run, ended: Result<(), Failure>) -> Replayed
+    ensures { result.unread + run.read ≡ run.limit }
+{
+    Replayed {
+        unread: run.limit - run.read,
+        broken: run.broken,
+        ended,
+    }
+}
+
 // Plays the first `have` bytes of the input, as far as the output has room, and moves what is left of them to the front.
 fn play_piece(
-    slots: &mut [u32],
+    slots: &mut [u32; SLOTS],
     playing: Playing,
-    input: &mut [u8],
+    input: &mut [u8; BUFFER],
     have: usize,
     last: bool,
-    out: &mut [u8],
+    out: &mut [u8; BUFFER],
 ) -> Advanced
-    requires { have ≤ length input.old }
-    ensures { (result.used ≤ have) × (result.written ≤ length out.old) }
+    requires { have ≤ 65536 }
+    ensures { (result.used ≤ have) × (result.written ≤ 65536) }
 {
     let advanced = plays::advance(slots, playing, &input[..have], last, out);
     input.copy_within(advanced.used..have, 0);
@@ -93,9 +102,8 @@ fn play_piece(
 // Plays the bytes that wait, of which no more come if these are the last, as far as the output's buffer has room, moves
 // what is left of them to the front, and writes the lines. Gives how many bytes it wrote.
 fn play_on(rt: HostRuntime, desk: &mut Desk, run: &mut Run, last: bool) -> Result<usize, Failure>
-    requires { run.old.have ≤ length desk.old.input.now }
+    requires { run.old.have ≤ 65536 }
     ensures run { (run.new.have ≤ run.old.have) × (run.new.read ≡ run.old.read) × (run.new.limit ≡ run.old.limit) }
-    ensures buffer { length desk.new.input.now ≡ length desk.old.input.now }
 {
     let playing = run.playing;
     let have = run.have;
@@ -116,9 +124,9 @@ fn play_on(rt: HostRuntime, desk: &mut Desk, run: &mut Run, last: bool) -> Resul
 
 // Reads on, behind the bytes that wait, and gives whether no more came.
 fn read_on(rt: HostRuntime, desk: &mut Desk, run: &mut Run) -> Result<bool, Failure>
-    requires { run.old.have ≤ length desk.old.input.now }
-    ensures run { (run.new.have ≤ length desk.new.input.now) × (run.new.limit ≡ run.old.limit) }
-    ensures buffer { length desk.new.input.now ≡ length desk.old.input.now }
+    requires { run.old.have ≤ 65536 }
+    ensures run { (run.new.have ≤ 65536) × (run.new.limit ≡ run.old.limit)
+        × (run.new.read + run.old.have ≡ run.old.read + run.new.have) }
 {
     let count = more(rt, desk.program, desk.input, run.have, run.limit - run.read)?;
     run.have += count;
@@ -129,10 +137,10 @@ fn read_on(rt: HostRuntime, desk: &mut Desk, run: &mut Run) -> Result<bool, Fail
 // Reads the journal in pieces, plays its records, and writes the lines of each piece before it reads the next. A proved
 // loop has to end, and nothing says that the input does: the turns are counted.
 fn run_on(rt: HostRuntime, desk: &mut Desk, run: &mut Run) -> Result<(), Failure>
-    requires { run.old.have ≤ length desk.old.input.now }
+    requires { run.old.have ≤ 65536 }
     ensures { run.new.limit ≡ run.old.limit }
 {
-    let mut last = false;
+    let mut last = read_on(rt, desk, run)?;
     for _ in 0..u64::MAX {
         let written = play_on(rt, desk, run, last)?;
         if let Stage::Over = run.playing.stage {

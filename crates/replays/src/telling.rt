@@ -8,13 +8,13 @@ pub struct Place {
     pub byte: u64,
 }
 
+// What is said behind the two numbers, with the end of the line, so that it goes out in one piece.
+const BREAKS: &str =
+    " (the first byte is 0), is broken or cut short: nothing behind it was played\n";
+
 impl fmt::Display for Place {
     fn fmt<W: fmt::Write>(&self, f: &mut fmt::Formatter<W>) -> fmt::Result {
-        write!(
-            f,
-            "record {}, which begins at byte {} (the first byte is 0), is broken or cut short: ",
-            self.record, self.byte
-        )?;
-        f.write_str("nothing behind it was played")
+        let Place { record, byte } = *self;
+        write!(f, "record {record}, which begins at byte {byte}{BREAKS}")
     }
 }

@@ -25,7 +25,7 @@ pub struct Reply {
 }
 
 // An element as it crosses: 1 and the number, or 0 and 0.
-pub fn crossing(number: Option<u32>) -> (u16, u32)
+fn crossing(number: Option<u32>) -> (u16, u32)
     ensures { result ≡ element_in_c (given number) }
 {
     number.map_or((0, 0), |number| (1, number))

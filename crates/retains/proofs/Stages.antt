@@ -1,5 +1,5 @@
 -- The two stages of `retain`. Assumes nothing.
-use Rattle.std.proofs.Common.{Bool, true, false, List, [], ◌++◌, ◌≡◌, sym, ap, ◌∙◌, arith}
+use Rattle.std.proofs.Common.{Bool, true, false, List, [], ◌++◌, ◌≡◌, refl, sym, ap, ◌∙◌, arith}
 use Rattle.std.proofs.Common.{ℕ, ◌≤◌, ◌<◌, ◌+◌, ◌-◌, length, length-append, take, drop, set, get_or}
 use Rattle.std.proofs.lemmas.Grind.{common_steps}
 use Rattle.std.proofs.lemmas.List.Folds.{prefix_len-append}
@@ -15,7 +15,7 @@ use Rattle.rules.specs.Conditions.{those}
 use Rattle.rules.specs.Choices.{whether}
 use Rattle.rules.specs.Places.{place}
 use Rattle.rules.specs.Records.{Rec, held}
-use Rattle.rules.specs.Slots.{lay, write, read}
+use Rattle.rules.specs.Slots.{lay, list_of, write, read}
 
 -- ---- stage 1: the list l is `front` and behind it `back`; i elements of `front` stand before the first rejected one
 
@@ -58,21 +58,24 @@ pub record Moving (f : ℕ → Bool) (cap n m : ℕ) (done b : List ℕ) (p q le
   pub slots : write cap b p (those f (read cap b q left)) ≡ done
   pub count : moved + length (those f (read cap b q left)) ≡ m
 
+-- of n elements that stand in a row, as a part of the slots has them, those that are kept
+pub kept_straight : (f : ℕ → Bool) (b : List ℕ) (i n : ℕ) (kept : List ℕ)
+    → kept ≡ those f (take (i + n - i) (drop i b)) → i + n ≤ length b → kept ≡ those f (list_of b i n)
+kept_straight f b i n kept those_kept le =
+    let long : i + n - i ≡ n = omega arith in
+    those_kept
+    ∙ ap (λ (k : ℕ). those f (take k (drop i b))) long
+    ∙ ap (those f) (sym (read_straight (length b) b i n refl le))
+
 module _ (f : ℕ → Bool) (cap len m : ℕ) (done b : List ℕ) (p q left moved : ℕ)
     (s : Moving f cap len m done b p q left moved) where
   -- the next n elements were looked at, and those of them that are kept were stored from slot p on
-  module _ (i n : ℕ) (le : n ≤ left) (at_i : i ≡ q) (straight : i + n ≤ cap) (kept : List ℕ)
-      (those_kept : kept ≡ those f (take (i + n - i) (drop i b))) where
+  module _ (i n : ℕ) (le : n ≤ left) (at_i : i ≡ q) (kept : List ℕ) (those_kept : kept ≡ those f (list_of b i n)) where
     rest : List ℕ
     rest = read cap b (place cap q n) (left - n)
 
     looked_at : kept ≡ those f (read cap b q n)
-    looked_at =
-        let long : i + n - i ≡ n = omega arith in
-        those_kept
-        ∙ ap (λ (k : ℕ). those f (take k (drop i b))) long
-        ∙ ap (those f) (sym (read_straight cap b i n (sym s.long) straight))
-        ∙ ap (λ (k : ℕ). those f (read cap b k n)) at_i
+    looked_at = those_kept ∙ (λ t. those f (read (s.long t) b (at_i t) n))
 
     upto : length kept ≤ n
     upto = omega (arith, ap length looked_at, length-those f (read cap b q n), length-read cap b q n)

@@ -10,6 +10,16 @@ const EINTR: i32 = 4;
 
 pub const EAGAIN: i32 = 11;
 
+// The number of an error of input or output, as Linux has it.
+const EIO: i32 = 5;
+
+// The number of an error: errno, or for an error that is not the system's EIO.
+pub fn number_of(error: io::Error) -> i32
+    ensures { result ≡ rules.number_of (raw_os_error error) }
+{
+    error.raw_os_error().unwrap_or(EIO)
+}
+
 // Whether an error says that the call was interrupted or could not be made yet.
 fn is_passing(error: io::Error) -> bool
     ensures { result ≡ rules.passing (raw_os_error error) }
@@ -19,6 +29,16 @@ fn is_passing(error: io::Error) -> bool
         Some(number) => number == EAGAIN,
         None => false,
     }
+}
+
+// So many bytes moved, or none.
+pub fn moving(bytes: usize) -> Option<usize>
+    ensures { result ≡ rules.moving bytes }
+{
+    if bytes == 0 {
+        return None;
+    }
+    Some(bytes)
 }
 
 // What one call of read or write came to: so many bytes, or `None` where it is to be made again.

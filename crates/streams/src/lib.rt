@@ -9,4 +9,4 @@ mod telling; // telling.rt: what a program says on standard error
 mod waiting; // waiting.rt: a little time between two tries
 
 pub use statuses::{Failure, leave};
-pub use telling::{read_input, say, write_output};
+pub use telling::{read_input, say, tell, write_output};

@@ -3,7 +3,7 @@
 ghost use Rattle.std.specs.Prelude.{◌≤◌, length};
 ghost use Rattle.streams.specs.Outcomes.{bytes_of, bytes_in};
 
-use crate::judging::{EAGAIN, came_to};
+use crate::judging::{EAGAIN, came_to, moving};
 use crate::waiting::wait;
 use std::io;
 use std::io::{Read, Write};
@@ -35,9 +35,9 @@ pub fn write<W: Write>(rt: HostRuntime, to: &mut W, bytes: &[u8]) -> io::Result<
         if left.is_empty() {
             return Ok(());
         }
-        match write_once(to, left)? {
-            Some(count) if count > 0 => left = &left[count..],
-            _ => wait(rt),
+        match write_once(to, left)?.and_then(moving) {
+            Some(count) => left = &left[count..],
+            None => wait(rt),
         }
     }
     Err(io::Error::from_raw_os_error(EAGAIN))

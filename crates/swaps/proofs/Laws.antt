@@ -9,13 +9,11 @@ use borrow.Author.Tests.{le-ltb, lt-ltb, eq-eqb, ne_eqb}
 use lib.Dec.{ltb}
 use lib.ListN.{length, get_or, set}
 use lib.Seq.{set-set, set-get_or}
-use Rattle.std.proofs.lemmas.List.Edits.{swap_is}
-use Rattle.std.specs.List as slice
 use Rattle.swaps.proofs.Stores.{both_stored, first_out, last_out}
 use Rattle.queue.proofs.Checks.{fine_change}
 use Rattle.queue.specs.Answers.{number_of}
 use Rattle.rules.proofs.Held.{stepped_same}
-use Rattle.rules.proofs.Places.{place_zero, place-low}
+use Rattle.rules.proofs.Places.{place_zero}
 use Rattle.rules.proofs.Slots.{get_or_list_of, handed_past, length_list_of, handed_at}
 use Rattle.rules.proofs.Told.{own-refused, accepts_same, accepts, alike}
 use Rattle.rules.specs.Ends.{exchange, swap_remove_front, swap_remove_back, pop_front, pop_back}
@@ -51,21 +49,18 @@ module _ (b : List ℕ) (r : Rec) (first : on_change (length b) r 0 ≡ 0) where
           (rw e (set-set (held b r) j _ _ ∙ set-get_or (held b r) j 0))
 
       pub swapped : (p p' : ℕ) (b' : List ℕ) → j < r.len → i ≢ j → p ≡ place (length b) r.head i
-          → p' ≡ place (length b) r.head j → b' ≡ slice.swap b p p'
+          → p' ≡ place (length b) r.head j → b' ≡ set (set b p (get_or b p' 0)) p' (get_or b p 0)
           → (record { refused = 0; moved = 2; state = shut r; handed = none }, b') ≡ told (do_rule b r (exchange i j))
       unfolding exchange ask whether held
       swapped p p' b' lt' ne at_p at-p' at_b =
           let g = (fine_change b r first).good in
           let h = r.head in
           let in_ring : h < length b = omega arith in
-          let low = place-low (length b) h in_ring in
           let one = get_or_list_of b h in_ring r.len i g.fits lt in
           let other = get_or_list_of b h in_ring r.len j g.fits lt' in
-          let both : slice.swap b p p' ≡ set (set b p (get_or b p' 0)) p' (get_or b p 0) =
-          sym (swap_is b p p' 0 (rw at_p (low i (omega arith))) (rw at-p' (low j (omega arith)))) in
           accepts b r (exchange i j) first (rw (lt-ltb i r.len lt, lt-ltb j r.len lt')) 2 h r.len r none b'
           (sym (stepped_same (length b) r g)) refl refl (rw (ne_eqb i j ne)) refl
-          (rw (one, other, at_b, both, at_p, at-p')
+          (rw (one, other, at_b, at_p, at-p')
           (both_stored b h r.len i _ in_ring g.fits lt j _ lt'))
 
   -- ---- the first in the place of the removed one

@@ -34,9 +34,12 @@ pub fn swap(slots: &mut [u32], q: Deque, i: usize, j: usize) -> Result<Change<De
     if i == j {
         return Ok(Change { after: q, moved: 0 });
     }
-    let at_i = places::wrap_add(cap, q.head, i).as_index();
-    let at_j = places::wrap_add(cap, q.head, j).as_index();
-    slots.swap(at_i, at_j);
+    let at_i = places::wrap_add(cap, q.head, i);
+    let at_j = places::wrap_add(cap, q.head, j);
+    // Stays: two stores, since the library's `swap` asks which place is the lower: where that can't be foreseen it
+    // takes twice as long.
+    let number = fill(slots, at_i, at_j);
+    slots[at_j.as_index()] = number;
     Ok(Change { after: q, moved: 2 })
 }
 

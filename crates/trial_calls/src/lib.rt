@@ -5,13 +5,13 @@ mod turning; // turning.rt: what is said of the calls of a sequence
 
 use places::WrappedIndex;
 use queue::Deque;
-pub use trial_looks::{Kept, Queues};
+pub use trial_looks::{BothLent, Kept, Lent, Queues};
 use trial_text::{Action, Answer, Line, Said};
 use turning::said_of;
 use turns::{Call, Side, turn};
 
 // Whether a line can be played: the calls of a drain ask for an open one.
-pub fn can_play(line: &Line, queues: &mut Queues) -> bool {
+pub fn can_play(line: &Line, queues: Queues) -> bool {
     match line.action {
         Action::Turn(Call::OfDrain(_)) => queues.of(line.side).record().is_none(),
         _ => true,
@@ -19,7 +19,7 @@ pub fn can_play(line: &Line, queues: &mut Queues) -> bool {
 }
 
 // Makes a line's call.
-pub fn make_call<'s>(side: Side, action: Action<'s>, queues: &'s mut Queues<'_>) -> Said<'s> {
+pub fn make_call<'s>(side: Side, action: Action<'s>, queues: &'s mut BothLent<'_>) -> Said<'s> {
     match action {
         Action::Turn(call) => {
             let told = turn(&mut queues.a.queue, &mut queues.b.queue, side, call);
@@ -47,7 +47,7 @@ pub fn make_call<'s>(side: Side, action: Action<'s>, queues: &'s mut Queues<'_>)
 }
 
 // A gets the slots 10, 11, .. and the record, B the slots 20, 21 and a record whose two elements wrap.
-fn plant(queues: &mut Queues, record: Deque) {
+fn plant(queues: &mut BothLent, record: Deque) {
     queues.a.plant(10, record);
     queues.b.plant(
         20,

@@ -6,4 +6,4 @@ mod looks; // looks.rt: the calls that only look
 mod shown; // shown.rt: a queue as text
 mod walking; // walking.rt: the calls of its walk
 
-pub use keeping::{Kept, Queues};
+pub use keeping::{BothLent, Kept, Lent, Queues};

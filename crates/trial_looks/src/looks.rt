@@ -1,8 +1,8 @@
 // The looks that no sequence of calls has. While a drain is open they are passed over.
-use crate::keeping::Kept;
+use crate::keeping::Lent;
 use trial_text::{Answer, Said};
 
-impl Kept<'_> {
+impl Lent<'_> {
     // The front run of a range of positions.
     pub fn front_run(&self, start: usize, end: usize) -> Said<'_> {
         Said::accepted(

@@ -1,5 +1,5 @@
 // A queue as text: its record or that of its open drain, its walk, and its slots.
-use crate::keeping::Kept;
+use crate::keeping::{Kept, Lent};
 use queue::State;
 use std::fmt;
 use trial_text::Spaced;
@@ -38,12 +38,19 @@ fn write_state<W: fmt::Write>(f: &mut fmt::Formatter<W>, state: State) -> fmt::R
     }
 }
 
-impl fmt::Display for Kept<'_> {
+impl fmt::Display for Kept {
     fn fmt<W: fmt::Write>(&self, f: &mut fmt::Formatter<W>) -> fmt::Result {
-        write_state(f, self.queue.state)?;
+        write_state(f, self.state)?;
         if let Some(walk) = self.walk {
             write!(f, " w {} {}", walk.low, walk.high)?;
         }
+        Ok(())
+    }
+}
+
+impl fmt::Display for Lent<'_> {
+    fn fmt<W: fmt::Write>(&self, f: &mut fmt::Formatter<W>) -> fmt::Result {
+        write!(f, "{}", self.kept())?;
         let values = self.slots();
         if values.len() > SHOWN {
             let sum = values.iter().fold(0, |sum, value| mixed(sum, *value));

@@ -1,11 +1,11 @@
 // The calls of a queue's walk, which keeps a record of its own.
-use crate::keeping::Kept;
+use crate::keeping::Lent;
 use answers::Sight;
 use elements::Step;
 use trial_text::{Answer, Said};
 use vec_deque::Refusal;
 
-impl Kept<'_> {
+impl Lent<'_> {
     // Begins the walk; while a drain is open it is passed over.
     pub fn begin_walk(&mut self) -> Said<'static> {
         let Some(record) = self.record() else {

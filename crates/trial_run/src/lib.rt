@@ -5,7 +5,7 @@
 mod play; // play.rt: a script, line by line
 
 use play::play;
-use streams::{Failure, say};
+use streams::{Failure, tell};
 use trial_text::{Input, Output};
 
 // The most slots of A and of B.
@@ -22,7 +22,7 @@ pub fn play_script(rt: HostRuntime) -> Result<(), Failure> {
         Ok(()) | Err(Failure::Read) => {}
         Err(Failure::Broken) => {
             let line = input.line();
-            say(
+            tell(
                 rt,
                 format_args!("trial: line {line} is broken: nothing behind it was played\n"),
             );

@@ -41,7 +41,7 @@ impl Input {
     fn read_piece(&mut self) -> Result<usize, Failure>
         ensures { IfOk result (λ len. len ≤ 65536) }
     {
-        streams::read_input(self.rt, "trial", &mut self.piece)
+        streams::read_input(self.rt, b"trial", &mut self.piece)
     }
 
     // The next byte, unless the input is at its end.

@@ -48,7 +48,7 @@ impl Output {
     pub fn flush(&mut self) -> Result<(), Failure>
         ensures { OnOk result (self.new ≡ []) }
     {
-        streams::write_output(self.rt, "trial", &self.buffer[..self.held])?;
+        streams::write_output(self.rt, b"trial", &self.buffer[..self.held])?;
         self.held = 0;
         Ok(())
     }

@@ -1,5 +1,5 @@
 -- `swaps::swap` meets its contract. Assumes nothing.
-use Rattle.std.proofs.Common.{sym, ◌∙◌}
+use Rattle.std.proofs.Common.{sym, refl}
 use Rattle.swaps.proofs.Laws.{position_past, not_swapped, swapped}
 use Rattle.queue.proofs.Checks.{change_refused}
 use Rattle.swaps.proofs.swap.Goals as goal
@@ -18,5 +18,5 @@ returns-then-i-j c =
 pub returns : goal.returns
 returns c =
     swapped _ _ (sym c.in_ok-check_change.ensures.number) _ _ c.if-i-q.false _ _ _ c.if-j-q.false c.if-i-j.false
-    (c.as_index-at_i.ensures ∙ c.wrap_add.ensures.place) (c.as_index-at_j.ensures ∙ c.wrap_add-2.ensures.place)
-    c.swap.ensures.after
+    c.wrap_add-at_i.ensures.place c.wrap_add-at_j.ensures.place
+    (rw (c.as_index.ensures, c.fill-number.ensures.gone, c.fill-number.ensures.filled) refl)
