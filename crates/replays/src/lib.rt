@@ -13,5 +13,5 @@ pub const SLOTS: usize = 16000;
 pub const BUFFER: usize = 65536;
 
 pub use reading::pass_over;
-pub use running::{Desk, Replayed};
+pub use running::{Desk, Replayed, replay};
 pub use telling::Place;

@@ -1,5 +1,5 @@
 // A journal, from its first byte to its last line.
-ghost use Rattle.std.specs.Prelude.{◌≡◌, ◌+◌, ◌≤◌};
+ghost use Rattle.std.specs.Prelude.{◌≡◌, ◌+◌, ◌≤◌, length};
 
 use crate::reading::{more, pass_over};
 use crate::telling::Place;
@@ -18,13 +18,22 @@ pub struct Replayed {
 
 // What a replay works with: the name that the program speaks under, the queue's slots, and a buffer for what is read and
 // one for what is written.
-// Stays: arrays, since a slice would not say how long they are (65536, in the clauses below, is BUFFER).
+// Stays: arrays, since a slice would not say how long they are.
 #[derive(Drop)]
 pub struct Desk<'a> {
     pub program: &'a [u8],
     pub slots: &'a mut [u32; SLOTS],
     pub input: &'a mut [u8; BUFFER],
     pub out: &'a mut [u8; BUFFER],
+}
+
+// The same in slots and buffers of any length, as they were lent.
+#[derive(Drop)]
+struct Loan<'p, 'a> {
+    program: &'p [u8],
+    slots: &'a mut [u32],
+    input: &'a mut [u8],
+    out: &'a mut [u8],
 }
 
 // A replay between two steps: where it stands in the journal, the records that it played, where the journal broke, the
@@ -46,15 +55,39 @@ impl<'a> Desk<'a> {
     pub fn replay(&mut self, rt: HostRuntime, limit: u64) -> Replayed
         ensures { result.unread ≤ limit }
     {
-        let mut run = begun(limit);
-        let ended = run_on(rt, self, &mut run);
-        left_of(run, ended)
+        let slots = self.slots.as_mut_slice();
+        let input = self.input.as_mut_slice();
+        let out = self.out.as_mut_slice();
+        replay(rt, self.program, slots, input, out, limit)
     }
 
     // Reads that many bytes and throws them away, and gives how many of them were missing.
     pub fn pass_over(&mut self, rt: HostRuntime, bytes: u64) -> Result<u64, Failure> {
         pass_over(rt, self.program, self.input, bytes)
     }
+}
+
+// The same in slots and buffers of any length. Where the input's buffer can't hold a record, of 12 bytes at most, that
+// reads as cut short; where the output's can't hold a line, of 105, the replay does not get on.
+pub fn replay(
+    rt: HostRuntime,
+    program: &[u8],
+    slots: &mut [u32],
+    input: &mut [u8],
+    out: &mut [u8],
+    limit: u64,
+) -> Replayed
+    ensures { result.unread ≤ limit }
+{
+    let mut loan = Loan {
+        program,
+        slots,
+        input,
+        out,
+    };
+    let mut run = begun(limit);
+    let ended = run_on(rt, &mut loan, &mut run);
+    left_of(run, ended)
 }
 
 // Before the first byte.
@@ -84,15 +117,15 @@ fn left_of(run: Run, ended: Result<(), Failure>) -> Replayed
 
 // Plays the first `have` bytes of the input, as far as the output has room, and moves what is left of them to the front.
 fn play_piece(
-    slots: &mut [u32; SLOTS],
+    slots: &mut [u32],
     playing: Playing,
-    input: &mut [u8; BUFFER],
+    input: &mut [u8],
     have: usize,
     last: bool,
-    out: &mut [u8; BUFFER],
+    out: &mut [u8],
 ) -> Advanced
-    requires { have ≤ 65536 }
-    ensures { (result.used ≤ have) × (result.written ≤ 65536) }
+    requires { have ≤ length input.old }
+    ensures { (result.used ≤ have) × (result.written ≤ length out.old) }
 {
     let advanced = plays::advance(slots, playing, &input[..have], last, out);
     input.copy_within(advanced.used..have, 0);
@@ -101,13 +134,14 @@ fn play_piece(
 
 // Plays the bytes that wait, of which no more come if these are the last, as far as the output's buffer has room, moves
 // what is left of them to the front, and writes the lines. Gives how many bytes it wrote.
-fn play_on(rt: HostRuntime, desk: &mut Desk, run: &mut Run, last: bool) -> Result<usize, Failure>
-    requires { run.old.have ≤ 65536 }
+fn play_on(rt: HostRuntime, loan: &mut Loan, run: &mut Run, last: bool) -> Result<usize, Failure>
+    requires { run.old.have ≤ length loan.old.input.now }
     ensures run { (run.new.have ≤ run.old.have) × (run.new.read ≡ run.old.read) × (run.new.limit ≡ run.old.limit) }
+    ensures buffer { length loan.new.input.now ≡ length loan.old.input.now }
 {
     let playing = run.playing;
     let have = run.have;
-    let advanced = play_piece(desk.slots, playing, desk.input, have, last, desk.out);
+    let advanced = play_piece(loan.slots, playing, loan.input, have, last, loan.out);
     run.have -= advanced.used;
     run.playing = advanced.playing;
     // A record has bytes of its own, so a u64 can count them.
@@ -118,17 +152,18 @@ fn play_on(rt: HostRuntime, desk: &mut Desk, run: &mut Run, last: bool) -> Resul
             byte: run.read - run.have as u64,
         });
     }
-    streams::write_output(rt, desk.program, &desk.out[..advanced.written])?;
+    streams::write_output(rt, loan.program, &loan.out[..advanced.written])?;
     Ok(advanced.written)
 }
 
 // Reads on, behind the bytes that wait, and gives whether no more came.
-fn read_on(rt: HostRuntime, desk: &mut Desk, run: &mut Run) -> Result<bool, Failure>
-    requires { run.old.have ≤ 65536 }
-    ensures run { (run.new.have ≤ 65536) × (run.new.limit ≡ run.old.limit)
+fn read_on(rt: HostRuntime, loan: &mut Loan, run: &mut Run) -> Result<bool, Failure>
+    requires { run.old.have ≤ length loan.old.input.now }
+    ensures run { (run.new.have ≤ length loan.new.input.now) × (run.new.limit ≡ run.old.limit)
         × (run.new.read + run.old.have ≡ run.old.read + run.new.have) }
+    ensures buffer { length loan.new.input.now ≡ length loan.old.input.now }
 {
-    let count = more(rt, desk.program, desk.input, run.have, run.limit - run.read)?;
+    let count = more(rt, loan.program, loan.input, run.have, run.limit - run.read)?;
     run.have += count;
     run.read += count as u64;
     Ok(count == 0)
@@ -136,13 +171,13 @@ fn read_on(rt: HostRuntime, desk: &mut Desk, run: &mut Run) -> Result<bool, Fail
 
 // Reads the journal in pieces, plays its records, and writes the lines of each piece before it reads the next. A proved
 // loop has to end, and nothing says that the input does: the turns are counted.
-fn run_on(rt: HostRuntime, desk: &mut Desk, run: &mut Run) -> Result<(), Failure>
-    requires { run.old.have ≤ 65536 }
+fn run_on(rt: HostRuntime, loan: &mut Loan, run: &mut Run) -> Result<(), Failure>
+    requires { run.old.have ≤ length loan.old.input.now }
     ensures { run.new.limit ≡ run.old.limit }
 {
-    let mut last = read_on(rt, desk, run)?;
+    let mut last = read_on(rt, loan, run)?;
     for _ in 0..u64::MAX {
-        let written = play_on(rt, desk, run, last)?;
+        let written = play_on(rt, loan, run, last)?;
         if let Stage::Over = run.playing.stage {
             return match run.broken {
                 Some(_) => Err(Failure::Broken),
@@ -150,7 +185,7 @@ fn run_on(rt: HostRuntime, desk: &mut Desk, run: &mut Run) -> Result<(), Failure
             };
         }
         if written == 0 {
-            last = read_on(rt, desk, run)?;
+            last = read_on(rt, loan, run)?;
         }
     }
     Err(Failure::Read)

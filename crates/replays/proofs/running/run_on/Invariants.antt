@@ -1,6 +1,6 @@
 -- What waits fits into the buffer.
-use Rattle.std.proofs.Common.{◌≡◌, ◌≤◌}
+use Rattle.std.proofs.Common.{◌≡◌, ◌≤◌, length}
 use Rattle.replays.proofs.running.run_on.Given as goal
 
 abbrev pub invariant-loop : goal.invariant-loop
-invariant-loop l = (l.run.have ≤ 65536) × (l.run.limit ≡ l.fn.run.limit)
+invariant-loop l = (l.run.have ≤ length l.loan.input.now) × (l.run.limit ≡ l.fn.run.limit)
