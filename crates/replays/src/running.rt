@@ -27,15 +27,6 @@ pub struct Desk<'a> {
     pub out: &'a mut [u8; BUFFER],
 }
 
-// The same in slots and buffers of any length, as they were lent.
-#[derive(Drop)]
-struct Loan<'p, 'a> {
-    program: &'p [u8],
-    slots: &'a mut [u32],
-    input: &'a mut [u8],
-    out: &'a mut [u8],
-}
-
 // A replay between two steps: where it stands in the journal, the records that it played, where the journal broke, the
 // bytes that wait at the front of the input's buffer, and those that were read, of at most `limit`.
 #[derive(Clone, Copy)]
@@ -67,8 +58,9 @@ impl<'a> Desk<'a> {
     }
 }
 
-// The same in slots and buffers of any length. Where the input's buffer can't hold a record, of 12 bytes at most, that
-// reads as cut short; where the output's can't hold a line, of 105, the replay does not get on.
+// The same in slots and buffers of any length. A record that the input's buffer has no room for, of 12 bytes at most,
+// reads as cut short, and in a buffer of no bytes as the end; where the output's has none for a line, of 105, the replay
+// does not get on.
 pub fn replay(
     rt: HostRuntime,
     program: &[u8],
@@ -79,14 +71,8 @@ pub fn replay(
 ) -> Replayed
     ensures { result.unread ≤ limit }
 {
-    let mut loan = Loan {
-        program,
-        slots,
-        input,
-        out,
-    };
     let mut run = begun(limit);
-    let ended = run_on(rt, &mut loan, &mut run);
+    let ended = run_on(rt, program, slots, input, out, &mut run);
     left_of(run, ended)
 }
 
@@ -134,14 +120,21 @@ fn play_piece(
 
 // Plays the bytes that wait, of which no more come if these are the last, as far as the output's buffer has room, moves
 // what is left of them to the front, and writes the lines. Gives how many bytes it wrote.
-fn play_on(rt: HostRuntime, loan: &mut Loan, run: &mut Run, last: bool) -> Result<usize, Failure>
-    requires { run.old.have ≤ length loan.old.input.now }
+fn play_on(
+    rt: HostRuntime,
+    program: &[u8],
+    slots: &mut [u32],
+    input: &mut [u8],
+    out: &mut [u8],
+    run: &mut Run,
+    last: bool,
+) -> Result<usize, Failure>
+    requires { run.old.have ≤ length input.old }
     ensures run { (run.new.have ≤ run.old.have) × (run.new.read ≡ run.old.read) × (run.new.limit ≡ run.old.limit) }
-    ensures buffer { length loan.new.input.now ≡ length loan.old.input.now }
 {
     let playing = run.playing;
     let have = run.have;
-    let advanced = play_piece(loan.slots, playing, loan.input, have, last, loan.out);
+    let advanced = play_piece(slots, playing, input, have, last, out);
     run.have -= advanced.used;
     run.playing = advanced.playing;
     // A record has bytes of its own, so a u64 can count them.
@@ -152,18 +145,22 @@ fn play_on(rt: HostRuntime, loan: &mut Loan, run: &mut Run, last: bool) -> Resul
             byte: run.read - run.have as u64,
         });
     }
-    streams::write_output(rt, loan.program, &loan.out[..advanced.written])?;
+    streams::write_output(rt, program, &out[..advanced.written])?;
     Ok(advanced.written)
 }
 
 // Reads on, behind the bytes that wait, and gives whether no more came.
-fn read_on(rt: HostRuntime, loan: &mut Loan, run: &mut Run) -> Result<bool, Failure>
-    requires { run.old.have ≤ length loan.old.input.now }
-    ensures run { (run.new.have ≤ length loan.new.input.now) × (run.new.limit ≡ run.old.limit)
+fn read_on(
+    rt: HostRuntime,
+    program: &[u8],
+    input: &mut [u8],
+    run: &mut Run,
+) -> Result<bool, Failure>
+    requires { run.old.have ≤ length input.old }
+    ensures run { (run.new.have ≤ length input.new) × (run.new.limit ≡ run.old.limit)
         × (run.new.read + run.old.have ≡ run.old.read + run.new.have) }
-    ensures buffer { length loan.new.input.now ≡ length loan.old.input.now }
 {
-    let count = more(rt, loan.program, loan.input, run.have, run.limit - run.read)?;
+    let count = more(rt, program, input, run.have, run.limit - run.read)?;
     run.have += count;
     run.read += count as u64;
     Ok(count == 0)
@@ -171,13 +168,22 @@ fn read_on(rt: HostRuntime, loan: &mut Loan, run: &mut Run) -> Result<bool, Fail
 
 // Reads the journal in pieces, plays its records, and writes the lines of each piece before it reads the next. A proved
 // loop has to end, and nothing says that the input does: the turns are counted.
-fn run_on(rt: HostRuntime, loan: &mut Loan, run: &mut Run) -> Result<(), Failure>
-    requires { run.old.have ≤ length loan.old.input.now }
+// Stays: slots and buffers one by one, since behind a struct's fields a program's own sizes are not seen when it is
+// built: one instruction more in a hundred.
+fn run_on(
+    rt: HostRuntime,
+    program: &[u8],
+    slots: &mut [u32],
+    input: &mut [u8],
+    out: &mut [u8],
+    run: &mut Run,
+) -> Result<(), Failure>
+    requires { run.old.have ≤ length input.old }
     ensures { run.new.limit ≡ run.old.limit }
 {
-    let mut last = read_on(rt, loan, run)?;
+    let mut last = read_on(rt, program, input, run)?;
     for _ in 0..u64::MAX {
-        let written = play_on(rt, loan, run, last)?;
+        let written = play_on(rt, program, slots, input, out, run, last)?;
         if let Stage::Over = run.playing.stage {
             return match run.broken {
                 Some(_) => Err(Failure::Broken),
@@ -185,7 +191,7 @@ fn run_on(rt: HostRuntime, loan: &mut Loan, run: &mut Run) -> Result<(), Failure
             };
         }
         if written == 0 {
-            last = read_on(rt, loan, run)?;
+            last = read_on(rt, program, input, run)?;
         }
     }
     Err(Failure::Read)
