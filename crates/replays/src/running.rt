@@ -58,9 +58,9 @@ impl<'a> Desk<'a> {
     }
 }
 
-// The same in slots and buffers of any length. A record that the input's buffer has no room for, of 12 bytes at most,
-// reads as cut short, and in a buffer of no bytes as the end; where the output's has none for a line, of 105, the replay
-// does not get on.
+// As `Desk::replay`, in slots and buffers of any length. A record that the input's buffer has no room for, of 12 bytes
+// at most, reads as cut short, and in a buffer of no bytes as the end; where the output's has fewer bytes than a line
+// may have, 105, the replay does not get on.
 pub fn replay(
     rt: HostRuntime,
     program: &[u8],
