@@ -16,7 +16,7 @@ pub struct Replayed {
     pub ended: Result<(), Failure>,
 }
 
-// What a replay works with: the name that the program speaks under, the queue's slots, and a buffer for what is read and
+// What a replay program works with: the name that it speaks under, the queue's slots, and a buffer for what is read and
 // one for what is written.
 // Stays: arrays, since a slice would not say how long they are.
 #[derive(Drop)]
